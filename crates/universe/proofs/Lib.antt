@@ -1,0 +1,10 @@
+pub mod PackedSets
+pub mod Manies
+pub mod KindTurns
+pub mod TableTurns
+pub mod Eaches
+pub mod Checked
+pub mod PackedBack
+pub mod PackedRead
+pub mod Accepted
+pub mod Sounds
