@@ -81,7 +81,6 @@ passed false y x r e h = let z : _≡_ {A = ℕ} 0 1 = cc in absurd (omega arith
 
 -- an order that has a line fits, and the line is the number of its fields
 lined : (o : Order) (x : ℕ) → encoded o ≡ Ok x → (fits (fromOrder o) ≡ true) × (toLine (fromOrder o) ≡ x)
-unfolding encoded
 lined o x h = passed (fits (fromOrder o)) (toLine (fromOrder o)) x _ refl h
 
 pub lines-bounded : Lines-bounded
@@ -89,7 +88,6 @@ lines-bounded o x h = let k = lined o x h in rw (sym (k .1)) (bounded (fromOrder
 
 -- an order comes back from its line
 forth : (o : Order) (x : ℕ) → encoded o ≡ Ok x → decoded x ≡ Ok o
-unfolding decoded
 forth o x h =
     let k = lined o x h in
     let e : fromLine x ≡ fromOrder o = rw (sym (k .1)) (parts (fromOrder o) (small (fromOrder o) (k .0))) in
@@ -105,7 +103,6 @@ operation-small (Delete z) = omega arith
 
 -- a line comes back from its order
 back : (o : Order) (x : ℕ) → decoded x ≡ Ok o → encoded o ≡ Ok x
-unfolding encoded decoded
 back o x h =
     let e : fromOrder o ≡ fromLine x = own (fromLine x) o h in
     let s = cut x (rw (sym (ap (λ f. f .operation) e)) (operation-small o)) in
@@ -113,12 +110,3 @@ back o x h =
 
 pub round-trip : Round-trip
 round-trip o x = (forth o x, back o x)
-
--- the two answers of the encoder
-pub accepted : (o : Order) (f : Fields) (x : ℕ) → f ≡ fromOrder o → fits f ≡ true → x ≡ toLine f → Ok x ≡ encoded o
-unfolding encoded
-accepted o f x e t h = rw (h, ← e, t)
-
-pub refused : (o : Order) (f : Fields) → f ≡ fromOrder o → fits f ≡ false → Err NotALine ≡ encoded o
-unfolding encoded
-refused o f e t = rw (← e, t)

@@ -78,11 +78,11 @@ toOrder f =
     (Err NotALine)))))
 
 -- the line of an order, refused where the order is too large for its fields
-unfoldable pub encoded : Order → Result ℕ LineRefusal
+abbrev pub encoded : Order → Result ℕ LineRefusal
 encoded o = cond (fits (fromOrder o)) (Ok (toLine (fromOrder o))) (Err NotALine)
 
 -- the order of a line, refused where the number is no line
-unfoldable pub decoded : ℕ → Result Order LineRefusal
+abbrev pub decoded : ℕ → Result Order LineRefusal
 decoded x = toOrder (fromLine x)
 
 -- a line is a number of 32 bits

@@ -17,8 +17,8 @@ use Rattle.universe.specs.declared.tables.Kind.{Kind}
 use Rattle.universe.specs.declared.tables.Tables.{Tables}
 use Rattle.universe.specs.declared.groups.Header.{Header}
 use Rattle.universe.specs.Sets.{has, hasFrom}
-use Rattle.universe.specs.Tables.{Sound, blankState, blankKind, kindAt, entryAt, universeOf}
-use Rattle.universe.specs.Reading.{Read, andThen, many, headerOf, headerRead, countOf, countRead, stateOf, stateRead, stateSize, kindOf, kindRead, kindSize, unusedKind, tablesOf, ended, total, tablesRead, wordAt}
+use Rattle.universe.specs.Tables.{unusedKind, Sound, blankState, blankKind, kindAt, entryAt, universeOf}
+use Rattle.universe.specs.Reading.{Read, andThen, many, headerOf, headerRead, countOf, countRead, stateOf, stateRead, stateSize, kindOf, kindRead, kindSize, tablesOf, ended, total, tablesRead, wordAt}
 use Rattle.universe.proofs.PackedSets.{below-from}
 use Rattle.universe.proofs.Eaches.{Each, each-at, then-ok, if-ok, ok-same, many-each, getD-filled}
 

@@ -17,8 +17,8 @@ use Rattle.universe.specs.declared.tables.Kind.{Kind}
 use Rattle.universe.specs.declared.tables.Tables.{Tables}
 use Rattle.universe.specs.declared.groups.Header.{Header}
 use Rattle.universe.specs.Sets.{has, field}
-use Rattle.universe.specs.Tables.{blankState, blankKind, kindAt, entryAt, universeOf}
-use Rattle.universe.specs.Reading.{Read, many, countRead, countOf, stateRead, stateOf, stateSize, kindOf, kindRead, kindSize, tablesOf, unusedKind, total, tablesRead, wordAt}
+use Rattle.universe.specs.Tables.{unusedKind, blankState, blankKind, kindAt, entryAt, universeOf}
+use Rattle.universe.specs.Reading.{Read, many, countRead, countOf, stateRead, stateOf, stateSize, kindOf, kindRead, kindSize, tablesOf, total, tablesRead, wordAt}
 use Rattle.universe.specs.Packed.{wordForm, stateForm, entryOf, rows, kindForm, headerBits, packedForm}
 use Rattle.universe.proofs.PackedSets.{field-has}
 use Rattle.universe.proofs.Eaches.{Each, each-map, each-both, each-places, then-ok, if-ok, ok-same, many-each, many-forms, getD-filled}

@@ -22,7 +22,7 @@ use Rattle.universe.specs.declared.tables.Tables.{Tables}
 use Rattle.universe.specs.declared.groups.Header.{Header}
 use Rattle.universe.specs.Sets.{has, hasFrom, field}
 use Rattle.universe.specs.Tables.{blankState, blankKind, kindAt, entryAt, universeOf}
-use Rattle.universe.specs.Reading.{Read, andThen, many, headerOf, headerRead, countOf, countRead, stateOf, stateRead, stateSize, kindOf, kindRead, kindSize, tablesOf, unusedKind, ended, total, tablesRead, wordAt}
+use Rattle.universe.specs.Reading.{Read, andThen, many, headerOf, headerRead, countOf, countRead, stateOf, stateRead, stateSize, kindOf, kindRead, kindSize, tablesOf, ended, total, tablesRead, wordAt}
 use Rattle.universe.specs.Packed.{wordForm, stateForm, entryOf, rows, kindForm, headerBits, packedForm}
 use Rattle.universe.proofs.PackedSets.{has-field, has-below, has-past, from-below}
 use Rattle.universe.proofs.Eaches.{Each, each-map, many-reads, getD-filled}

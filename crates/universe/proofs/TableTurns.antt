@@ -15,7 +15,8 @@ use Rattle.universe.specs.declared.refusal.UniverseRefusal.the-variants.{Lengt
 use Rattle.universe.specs.declared.tables.Kind.{Kind}
 use Rattle.universe.specs.declared.tables.Tables.{Tables}
 use Rattle.universe.specs.declared.groups.Header.{Header}
-use Rattle.universe.specs.Reading.{Read, andThen, many, filled, headerRead, kindRead, kindSize, unusedKind, tablesOf, ended, total, tablesRead}
+use Rattle.universe.specs.Tables.{unusedKind}
+use Rattle.universe.specs.Reading.{Read, andThen, many, filled, headerRead, kindRead, kindSize, tablesOf, ended, total, tablesRead}
 use Rattle.universe.proofs.Manies.{many-more, many-refused, many-done, Filling, filling-none, filling-more, filling-all}
 
 pub total-push : {X : Type 0} (size : X → ℕ) (xs : List X) (x : X) → total size (xs ++ (x ∷ [])) ≡ total size xs + size x

@@ -2,7 +2,7 @@
 use mathlib.Core.Path.{_≡_}
 use mathlib.Core.List.{List, [], _∷_, _++_}
 use Prim.Native.Nat.{ℕ, zero, suc, _+_, _*_, _/_, _%_, _^_}
-use Rattle.std.specs.declared.result.Result.the-variants.{Ok}
+use Rattle.std.specs.declared.result.Result.the-variants.{Ok, Err}
 use Rattle.model.specs.Universe.{Universe, Valid}
 use Rattle.universe.specs.declared.tables.State.{State}
 use Rattle.universe.specs.declared.tables.Tables.{Tables}
@@ -39,7 +39,20 @@ headerBits types ports = types * 2 ^ 11 + ports * 2 ^ 5
 abbrev pub packedForm : Universe → List ℕ
 packedForm u = headerBits (u .types) (u .ports) / 2 ^ 8 ∷ (headerBits (u .types) (u .ports) % 2 ^ 8 ∷ rows (kindForm u) 0 (u .types))
 
--- A file is accepted exactly if it is the packed form of a universe, and the place then holds that universe.
-pub record Accepts (bs : List ℕ) (answer : Read (Unit {0})) (held : Tables) : Type 0 where
-  pub only : answer ≡ Ok tt → bs ≡ packedForm (universeOf held)
-  pub every : (u : Universe) → Valid u → bs ≡ packedForm u → (answer ≡ Ok tt) × (universeOf held ≡ u)
+-- the bytes are the packed form of the universe that the tables hold, and of no other
+abbrev pub FormOf : List ℕ → Tables → Type 0
+FormOf bs held = (bs ≡ packedForm (universeOf held)) × ((u : Universe) → Valid u → bs ≡ packedForm u → universeOf held ≡ u)
+
+-- the bytes are the packed form of no universe
+abbrev pub FormOfNone : List ℕ → Type 0
+FormOfNone bs = (u : Universe) → Valid u → bs ≡ packedForm u → ⊥
+
+-- a file is accepted exactly if it is the packed form of a universe, and the place then holds that universe
+abbrev pub Packs : List ℕ → Read (Unit {0}) → Tables → Type 0
+Packs bs (Ok x) held = FormOf bs held
+Packs bs (Err e) held = FormOfNone bs
+
+-- the same of the tables that were read
+abbrev pub PacksRead : List ℕ → Read Tables → Type 0
+PacksRead bs (Ok held) = FormOf bs held
+PacksRead bs (Err e) = FormOfNone bs

@@ -15,7 +15,7 @@ use Rattle.universe.specs.declared.tables.Kind.{Kind}
 use Rattle.universe.specs.declared.tables.Tables.{Tables}
 use Rattle.universe.specs.declared.groups.Header.{Header}
 use Rattle.universe.specs.Sets.{has, hasFrom}
-use Rattle.universe.specs.Tables.{blankState}
+use Rattle.universe.specs.Tables.{blankState, unusedKind}
 
 abbrev pub Read : Type 0 → Type 0
 Read X = Result X UniverseRefusal
@@ -101,10 +101,6 @@ kindRead ports t bs =
 unfoldable pub total : {X : Type 0} → (X → ℕ) → List X → ℕ
 total size [] = 0
 total size (x ∷ xs) = size x + total size xs
-
--- a type behind the last
-abbrev pub unusedKind : Kind
-unusedKind = record { count = 0; states = replicate 8 blankState }
 
 abbrev pub tablesOf : Header → List Kind → Tables
 tablesOf h ks = record { types = h .types; ports = h .ports; kinds = filled 16 unusedKind ks }

@@ -1,8 +1,9 @@
 // A universe: entries that keep to the rules of the model.
 ghost use mathlib.Core.Path.{_≡_};
-ghost use Rattle.universe.specs.Tables.{Sound, entryAt, universeOf};
+ghost use Rattle.universe.specs.Tables.{Sound, entryAt, leastTables, universeOf};
 use crate::sets::has_port;
 use crate::sets::has_state;
+use crate::tables::Kind;
 use crate::tables::State;
 use crate::tables::Tables;
 
@@ -12,7 +13,44 @@ pub struct Universe {
     ghost sound: { ∥ Sound tables ∥₁ },
 }
 
+// An entry behind the last state of a type.
+pub(crate) const BLANK_STATE: State = State { provided: 0, required: 0, successors: 0 };
+
+// A type behind the last.
+pub(crate) const UNUSED_KIND: Kind = Kind { count: 0, states: [BLANK_STATE; 8] };
+
+// The tables of the least universe.
+const LEAST: Tables = Tables {
+    types: 1,
+    ports: 0,
+    kinds: [
+        Kind { count: 1, states: [BLANK_STATE; 8] },
+        UNUSED_KIND,
+        UNUSED_KIND,
+        UNUSED_KIND,
+        UNUSED_KIND,
+        UNUSED_KIND,
+        UNUSED_KIND,
+        UNUSED_KIND,
+        UNUSED_KIND,
+        UNUSED_KIND,
+        UNUSED_KIND,
+        UNUSED_KIND,
+        UNUSED_KIND,
+        UNUSED_KIND,
+        UNUSED_KIND,
+        UNUSED_KIND,
+    ],
+};
+
 impl Universe {
+    // The least universe, for a place to read into: one type of one state, and no ports.
+    pub fn least() -> Self
+        ensures { λ r. ⌜ r .tables ≡ leastTables ⌝ }
+    {
+        Universe::holding(LEAST)
+    }
+
     // The universe that the tables hold.
     pub(crate) fn holding(tables: Tables) -> Self
         requires { ⌜ Sound tables ⌝ }

@@ -3,30 +3,18 @@ ghost use mathlib.Core.Path.{_≡_};
 ghost use Prim.Native.Nat.{_≤_};
 ghost use lib.ListN.{length};
 ghost use Rattle.std.specs.Vec.{made};
-ghost use Rattle.universe.specs.Packed.{Accepts};
+ghost use Rattle.universe.specs.Packed.{Packs, PacksRead};
 ghost use Rattle.universe.specs.Reading.{answerOf, heldAfter, kindRead, kindSize, tablesRead};
 ghost use Rattle.universe.specs.Tables.{Sound};
 use crate::groups::read_count;
 use crate::groups::read_header;
 use crate::groups::read_state;
+use crate::held::BLANK_STATE;
+use crate::held::UNUSED_KIND;
 use crate::held::Universe;
 use crate::refusal::UniverseRefusal;
 use crate::tables::Kind;
-use crate::tables::State;
 use crate::tables::Tables;
-
-// An entry behind the last state of a type.
-const BLANK_STATE: State = State {
-    provided: 0,
-    required: 0,
-    successors: 0,
-};
-
-// A type behind the last.
-const UNUSED_KIND: Kind = Kind {
-    count: 0,
-    states: [BLANK_STATE; 8],
-};
 
 // The type at the front of the bytes.
 fn read_kind(ports: u8, number: u8, bytes: &[u8]) -> Result<Kind, UniverseRefusal>
@@ -46,6 +34,7 @@ fn read_kind(ports: u8, number: u8, bytes: &[u8]) -> Result<Kind, UniverseRefusa
 fn read_tables(bytes: &[u8]) -> Result<Tables, UniverseRefusal>
     ensures value { λ r. ⌜ r ≡ tablesRead (now (bytes .entry)) ⌝ }
     ensures sound { λ r. ⌜ made r Sound ⌝ }
+    ensures law { λ r. ⌜ PacksRead (now (bytes .entry)) r ⌝ }
 {
     let header = read_header(bytes)?;
     let mut kinds = [UNUSED_KIND; 16];
@@ -65,21 +54,13 @@ fn read_tables(bytes: &[u8]) -> Result<Tables, UniverseRefusal>
     })
 }
 
-// Reads the file into the place.
-fn read_into(bytes: &[u8], place: &mut Universe) -> Result<(), UniverseRefusal>
-    ensures answer { λ r. ⌜ r ≡ answerOf (tablesRead (now (bytes .entry))) ⌝ }
-    ensures place { λ _. ⌜ now (place .exit) .tables ≡ heldAfter (tablesRead (now (bytes .entry))) (now (place .entry) .tables) ⌝ }
-{
-    let tables = read_tables(bytes)?;
-    *place = Universe::holding(tables);
-    Ok(())
-}
-
 // Reads the universe that the file packs into the place; a file that is refused leaves the place as it was.
 pub fn read(bytes: &[u8], place: &mut Universe) -> Result<(), UniverseRefusal>
     ensures answer { λ r. ⌜ r ≡ answerOf (tablesRead (now (bytes .entry))) ⌝ }
     ensures place { λ _. ⌜ now (place .exit) .tables ≡ heldAfter (tablesRead (now (bytes .entry))) (now (place .entry) .tables) ⌝ }
-    ensures law { λ r. ⌜ Accepts (now (bytes .entry)) r (now (place .exit) .tables) ⌝ }
+    ensures law { λ r. ⌜ Packs (now (bytes .entry)) r (now (place .exit) .tables) ⌝ }
 {
-    read_into(bytes, place)
+    let tables = read_tables(bytes)?;
+    *place = Universe::holding(tables);
+    Ok(())
 }

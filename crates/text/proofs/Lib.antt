@@ -1,0 +1,3 @@
+mod Steps
+mod Reading
+mod Law
