@@ -14,41 +14,41 @@ pub struct Universe {
 }
 
 // An entry behind the last state of a type.
-pub(crate) const BLANK_STATE: State = State { provided: 0, required: 0, successors: 0 };
+pub(crate) const BLANK_STATE: State = State {
+    provided: 0,
+    required: 0,
+    successors: 0,
+};
 
 // A type behind the last.
-pub(crate) const UNUSED_KIND: Kind = Kind { count: 0, states: [BLANK_STATE; 8] };
+pub(crate) const UNUSED_KIND: Kind = Kind {
+    count: 0,
+    states: [BLANK_STATE; 8],
+};
 
 // The tables of the least universe.
-const LEAST: Tables = Tables {
-    types: 1,
-    ports: 0,
-    kinds: [
-        Kind { count: 1, states: [BLANK_STATE; 8] },
-        UNUSED_KIND,
-        UNUSED_KIND,
-        UNUSED_KIND,
-        UNUSED_KIND,
-        UNUSED_KIND,
-        UNUSED_KIND,
-        UNUSED_KIND,
-        UNUSED_KIND,
-        UNUSED_KIND,
-        UNUSED_KIND,
-        UNUSED_KIND,
-        UNUSED_KIND,
-        UNUSED_KIND,
-        UNUSED_KIND,
-        UNUSED_KIND,
-    ],
-};
+fn least_tables() -> Tables
+    ensures value { λ r. ⌜ r ≡ leastTables ⌝ }
+    ensures sound { λ r. ⌜ Sound r ⌝ }
+{
+    let mut kinds = [UNUSED_KIND; 16];
+    kinds[0] = Kind {
+        count: 1,
+        states: [BLANK_STATE; 8],
+    };
+    Tables {
+        types: 1,
+        ports: 0,
+        kinds,
+    }
+}
 
 impl Universe {
     // The least universe, for a place to read into: one type of one state, and no ports.
     pub fn least() -> Self
         ensures { λ r. ⌜ r .tables ≡ leastTables ⌝ }
     {
-        Universe::holding(LEAST)
+        Universe::holding(least_tables())
     }
 
     // The universe that the tables hold.
@@ -91,11 +91,7 @@ impl Universe {
         if kind < 16 && state < 8 {
             self.tables.kinds[kind as usize].states[state as usize]
         } else {
-            State {
-                provided: 0,
-                required: 0,
-                successors: 0,
-            }
+            BLANK_STATE
         }
     }
 

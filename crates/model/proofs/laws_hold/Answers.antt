@@ -1,4 +1,3 @@
-use mathlib.Core.Path.{refl}
 use Rattle.model.proofs.Formed.{empty-law, formed-law}
 use Rattle.model.proofs.Openings.{opening-law}
 use Rattle.model.proofs.GapSearch.{search-law}
@@ -14,5 +13,4 @@ returns c =
       search = search-law;
       run = run-law;
       prefixes = prefix-law;
-      answer = refl;
     }
