@@ -3,6 +3,9 @@ use mathlib.Core.Path.{_≡_}
 use Rattle.std.specs.declared.result.Result.the-variants.{Ok, Err}
 use Rattle.model.specs.declared.order.Order.the-variants.{Create, Bind, Unbind}
 use Rattle.lines.specs.declared.refusal.LineRefusal.the-variants.{NotALine}
+use lib.ListN.{length}
+use Rattle.universe.specs.Packed.{packedForm}
+use Rattle.harbour.specs.Harbour.{harbour, harbourFile}
 use Rattle.lines.specs.Line.{encoded, decoded}
 
 -- lines of orders, and numbers that are no lines
@@ -20,3 +23,13 @@ pub record Line-cases : Type 0 where
   pub spare : decoded 0x20200011 ≡ Err NotALine
   -- 0 is no operation
   pub zero : decoded 0x00000000 ≡ Err NotALine
+
+-- the file of the harbour universe is its packed form, and has 68 bytes
+pub record File-cases : Type 0 where
+  pub form : packedForm harbour ≡ harbourFile
+  pub size : length harbourFile ≡ 68
+
+-- all worked cases, jointly
+pub record Harbour-cases : Type 0 where
+  pub file : File-cases
+  pub lines : Line-cases

@@ -1,1 +1,2 @@
+pub mod Harbour
 pub mod Cases

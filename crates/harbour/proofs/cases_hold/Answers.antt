@@ -1,5 +1,5 @@
-use Rattle.harbour.proofs.Cases.{line-cases}
+use Rattle.harbour.proofs.Cases.{file-cases, line-cases}
 use Rattle.harbour.proofs.cases_hold.Needs as need
 
 pub returns : need.returns
-returns c = record { cases = line-cases }
+returns c = record { file = file-cases; lines = line-cases }
