@@ -49,7 +49,9 @@ fn show_orders(rt: &LibcRuntime, text: &[u8]) -> Result<(), AnyError> {
             rt.print(pack_text(heap, orders.len())?.as_str())?;
             show_script(rt, bytes.as_slice())
         }
-        Err(fault) => Ok(rt.print(refusal_text(heap, fault.refusal.number(), fault.place)?.as_str())?),
+        Err(fault) => Ok(
+            rt.print(refusal_text(heap, fault.refusal.number(), fault.place)?.as_str())?,
+        ),
     }
 }
 

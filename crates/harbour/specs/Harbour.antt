@@ -24,7 +24,7 @@ harbour = record {
   states = counts;
   provides = λ t q p. are 0 1 0 t q p || are 1 1 1 t q p;
   requires = λ t q p. are 1 1 0 t q p || are 2 1 0 t q p || are 2 2 1 t q p;
-  next = λ t q n. eqb n (suc q) && ltb n (counts t)
+  next = λ t q n. eqb n (suc q) && ltb n (counts t);
 }
 
 -- its file

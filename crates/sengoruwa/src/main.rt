@@ -49,17 +49,26 @@ fn print_report(rt: &LibcRuntime, report: Report) -> Result<bool, AnyError> {
 
 fn show_universe(rt: &LibcRuntime, path: &str) -> Result<bool, AnyError> {
     let Ok(bytes) = fs::read(rt, path) else {
-        return misused(rt, "the universe cannot be read: name a file that can be read");
+        return misused(
+            rt,
+            "the universe cannot be read: name a file that can be read",
+        );
     };
     print_report(rt, universe_report(rt.alloc(), bytes.as_slice())?)
 }
 
 fn show_lines(rt: &LibcRuntime, path: &str) -> Result<bool, AnyError> {
     let Ok(bytes) = fs::read(rt, path) else {
-        return misused(rt, "the script cannot be read: name a file that can be read");
+        return misused(
+            rt,
+            "the script cannot be read: name a file that can be read",
+        );
     };
     let Some(lines) = script_lines(rt.alloc(), bytes.as_slice())? else {
-        return misused(rt, "the script is cut short: a script file has four bytes for each line");
+        return misused(
+            rt,
+            "the script is cut short: a script file has four bytes for each line",
+        );
     };
     print_report(rt, lines_report(rt.alloc(), lines.as_slice())?)
 }
@@ -67,19 +76,28 @@ fn show_lines(rt: &LibcRuntime, path: &str) -> Result<bool, AnyError> {
 fn pack(rt: &LibcRuntime, orders: &str, path: &str) -> Result<bool, AnyError> {
     let heap = rt.alloc();
     let Ok(text) = fs::read(rt, orders) else {
-        return misused(rt, "the orders cannot be read: name a file that can be read");
+        return misused(
+            rt,
+            "the orders cannot be read: name a file that can be read",
+        );
     };
     let orders = match parse_orders(heap, text.as_slice())? {
         Ok(orders) => orders,
         Err(line) => {
-            eprintln!(rt, "line {line} of the orders writes no order: write it as in the usage text")?;
+            eprintln!(
+                rt,
+                "line {line} of the orders writes no order: write it as in the usage text"
+            )?;
             return Err("misused".into());
         }
     };
     match pack_orders(heap, orders.as_slice())? {
         Ok(bytes) => {
             if fs::write(rt, path, bytes.as_slice()).is_err() {
-                return misused(rt, "the script cannot be written: name a file that can be written");
+                return misused(
+                    rt,
+                    "the script cannot be written: name a file that can be written",
+                );
             }
             rt.print(pack_text(heap, orders.len())?.as_str())?;
             Ok(false)
@@ -95,7 +113,10 @@ fn demo(rt: &LibcRuntime) -> Result<bool, AnyError> {
     let heap = rt.alloc();
     println!(rt, "The harbour universe, read from its file of 68 bytes:")?;
     let _ = print_report(rt, universe_report(heap, &universe_file())?)?;
-    println!(rt, "The harbour script, packed into lines and read from them again:")?;
+    println!(
+        rt,
+        "The harbour script, packed into lines and read from them again:"
+    )?;
     let Ok(orders) = parse_orders(heap, HARBOUR_ORDERS)? else {
         return misused(rt, "the orders of the example cannot be read");
     };
@@ -116,7 +137,11 @@ fn run(rt: &LibcRuntime, words: &[String]) -> Result<bool, AnyError> {
         [command] if command.as_str() == "demo" => demo(rt),
         [command, file] if command.as_str() == "universe" => show_universe(rt, file.as_str()),
         [command, file] if command.as_str() == "lines" => show_lines(rt, file.as_str()),
-        [command, orders, file] if command.as_str() == "pack" => pack(rt, orders.as_str(), file.as_str()),
+        [command, orders, file] if command.as_str() == "pack" => pack(
+            rt,
+            orders.as_str(),
+            file.as_str(),
+        ),
         _ => misused(rt, USAGE),
     }
 }

@@ -1,0 +1,3 @@
+pub mod Described
+pub mod Hex
+pub mod Scripts
