@@ -3,12 +3,12 @@
 use console::describe::universe_report;
 use console::hex::parse_hex;
 use console::report::Report;
-use console::script::lines_report;
-use console::script::pack_orders;
-use console::script::pack_text;
-use console::script::parse_orders;
-use console::script::refusal_text;
-use console::script::script_lines;
+use scripts::lines_report;
+use scripts::pack_orders;
+use scripts::pack_text;
+use scripts::parse_orders;
+use scripts::refusal_text;
+use scripts::script_lines;
 use std::error::AnyError;
 use std::fs;
 

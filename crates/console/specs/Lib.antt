@@ -1,3 +1,2 @@
 pub mod Described
 pub mod Hex
-pub mod Scripts

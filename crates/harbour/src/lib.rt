@@ -7,76 +7,11 @@ ghost use Rattle.harbour.specs.Harbour.{harbourFile};
 pub fn universe_file() -> [u8; 68]
     ensures { λ r. ⌜ r ≡ harbourFile ⌝ }
 {
-    [
-        0x18,
-        0x40, // 3 types, 2 ports
-        0x20, // type 0, the lock: 2 states
-        0,
-        0,
-        0,
-        0,
-        0,
-        0,
-        0,
-        0,
-        0x40, //
-        0x80,
-        0,
-        0,
-        0,
-        0,
-        0,
-        0,
-        0,
-        0, //
-        0x20, // type 1, the roster: 2 states
-        0,
-        0,
-        0,
-        0,
-        0,
-        0,
-        0,
-        0,
-        0x40, //
-        0x40,
-        0,
-        0,
-        0,
-        0x80,
-        0,
-        0,
-        0,
-        0, //
-        0x30, // type 2, the dispatcher: 3 states
-        0,
-        0,
-        0,
-        0,
-        0,
-        0,
-        0,
-        0,
-        0x40, //
-        0,
-        0,
-        0,
-        0,
-        0x80,
-        0,
-        0,
-        0,
-        0x20, //
-        0,
-        0,
-        0,
-        0,
-        0x40,
-        0,
-        0,
-        0,
-        0, //
-    ]
+    // 3 types and 2 ports; the lock, the roster and the dispatcher, each with its states.
+    *b"\x18\x40\
+       \x20\0\0\0\0\0\0\0\0\x40\x80\0\0\0\0\0\0\0\0\
+       \x20\0\0\0\0\0\0\0\0\x40\x40\0\0\0\x80\0\0\0\0\
+       \x30\0\0\0\0\0\0\0\0\x40\0\0\0\0\x80\0\0\0\x20\0\0\0\0\x40\0\0\0\0"
 }
 
 // The worked cases hold, jointly: the harbour universe has this file, and these orders have these lines.

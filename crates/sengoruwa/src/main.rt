@@ -1,13 +1,13 @@
 // The program: it reads its arguments and files, and prints what the library makes of them.
 use console::describe::universe_report;
 use console::report::Report;
-use console::script::lines_report;
-use console::script::pack_orders;
-use console::script::pack_text;
-use console::script::parse_orders;
-use console::script::refusal_text;
-use console::script::script_lines;
 use harbour::universe_file;
+use scripts::lines_report;
+use scripts::pack_orders;
+use scripts::pack_text;
+use scripts::parse_orders;
+use scripts::refusal_text;
+use scripts::script_lines;
 use std::env;
 use std::error::AnyError;
 use std::fs;
@@ -47,23 +47,24 @@ fn print_report(rt: &LibcRuntime, report: Report) -> Result<bool, AnyError> {
     Ok(refused)
 }
 
+// The bytes of a file.
+fn read_file(rt: &LibcRuntime, path: &str) -> Result<Vec<u8>, AnyError> {
+    match fs::read(rt, path) {
+        Ok(bytes) => Ok(bytes),
+        Err(_) => {
+            eprintln!(rt, "cannot read {path}: name a file that can be read")?;
+            Err("misused".into())
+        }
+    }
+}
+
 fn show_universe(rt: &LibcRuntime, path: &str) -> Result<bool, AnyError> {
-    let Ok(bytes) = fs::read(rt, path) else {
-        return misused(
-            rt,
-            "the universe cannot be read: name a file that can be read",
-        );
-    };
+    let bytes = read_file(rt, path)?;
     print_report(rt, universe_report(rt.alloc(), bytes.as_slice())?)
 }
 
 fn show_lines(rt: &LibcRuntime, path: &str) -> Result<bool, AnyError> {
-    let Ok(bytes) = fs::read(rt, path) else {
-        return misused(
-            rt,
-            "the script cannot be read: name a file that can be read",
-        );
-    };
+    let bytes = read_file(rt, path)?;
     let Some(lines) = script_lines(rt.alloc(), bytes.as_slice())? else {
         return misused(
             rt,
@@ -73,20 +74,16 @@ fn show_lines(rt: &LibcRuntime, path: &str) -> Result<bool, AnyError> {
     print_report(rt, lines_report(rt.alloc(), lines.as_slice())?)
 }
 
+// Packs the orders and writes the script; an order that does not fit leaves the file as it was.
 fn pack(rt: &LibcRuntime, orders: &str, path: &str) -> Result<bool, AnyError> {
     let heap = rt.alloc();
-    let Ok(text) = fs::read(rt, orders) else {
-        return misused(
-            rt,
-            "the orders cannot be read: name a file that can be read",
-        );
-    };
+    let text = read_file(rt, orders)?;
     let orders = match parse_orders(heap, text.as_slice())? {
         Ok(orders) => orders,
         Err(line) => {
             eprintln!(
                 rt,
-                "line {line} of the orders writes no order: write it as in the usage text"
+                "line {line} of {orders} writes no order: write it as in the usage text"
             )?;
             return Err("misused".into());
         }
@@ -94,10 +91,8 @@ fn pack(rt: &LibcRuntime, orders: &str, path: &str) -> Result<bool, AnyError> {
     match pack_orders(heap, orders.as_slice())? {
         Ok(bytes) => {
             if fs::write(rt, path, bytes.as_slice()).is_err() {
-                return misused(
-                    rt,
-                    "the script cannot be written: name a file that can be written",
-                );
+                eprintln!(rt, "cannot write {path}: name a file that can be written")?;
+                return Err("misused".into());
             }
             rt.print(pack_text(heap, orders.len())?.as_str())?;
             Ok(false)

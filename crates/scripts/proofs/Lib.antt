@@ -1,0 +1,5 @@
+pub mod PackTurns
+pub mod ParseTurns
+pub mod ScriptLists
+pub mod ScriptTurns
+pub mod WordTurns
