@@ -1,6 +1,8 @@
 // Bytes written as hexadecimal digits.
 ghost use mathlib.Core.Path.{_≡_};
-ghost use Rattle.console.specs.Hex.{byteOf, bytesOf, digitOf};
+ghost use Prim.Native.Nat.{_/_};
+ghost use lib.ListN.{length};
+ghost use Rattle.console.specs.Hex.{byteOf, bytesOf, digitOf, pairsOf};
 ghost use Rattle.std.specs.Of.Vec.{vec-items};
 ghost use Rattle.std.specs.Options.{mapped};
 ghost use Rattle.std.specs.Vec.{made};
@@ -26,9 +28,9 @@ fn byte_of(high: u8, low: u8) -> Option<u8>
     Some(digit(high)? * 16 + digit(low)?)
 }
 
-// The bytes that a word of hexadecimal digits writes; none where a character is no digit, or one is left over.
-pub fn parse_hex(heap: Global, word: &[u8]) -> Result<Option<Vec<u8>>, AllocError>
-    ensures { λ r. ⌜ made r (λ o. mapped vec-items o ≡ bytesOf (now (word .entry))) ⌝ }
+// The bytes of the pairs of digits in a word; none where a character is no digit.
+fn read_pairs(heap: Global, word: &[u8]) -> Result<Option<Vec<u8>>, AllocError>
+    ensures { λ r. ⌜ made r (λ o. mapped vec-items o ≡ pairsOf (length (now (word .entry)) / 2) (now (word .entry))) ⌝ }
 {
     let mut bytes = Vec::new(heap);
     for i in 0..word.len() / 2 {
@@ -37,8 +39,15 @@ pub fn parse_hex(heap: Global, word: &[u8]) -> Result<Option<Vec<u8>>, AllocErro
             None => return Ok(None),
         }
     }
-    if word.len() % 2 == 1 {
+    Ok(Some(bytes))
+}
+
+// The bytes that a word of hexadecimal digits writes; none where a character is no digit, or one is left over.
+pub fn parse_hex(heap: Global, word: &[u8]) -> Result<Option<Vec<u8>>, AllocError>
+    ensures { λ r. ⌜ made r (λ o. mapped vec-items o ≡ bytesOf (now (word .entry))) ⌝ }
+{
+    if word.len() % 2 != 0 {
         return Ok(None);
     }
-    Ok(Some(bytes))
+    read_pairs(heap, word)
 }

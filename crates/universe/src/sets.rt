@@ -39,14 +39,14 @@ pub fn has_state(set: u8, state: u32) -> bool
 }
 
 // Whether some port from `first` on is in the set.
-pub fn has_ports_from(set: u32, first: u32) -> bool
+pub(crate) fn has_ports_from(set: u32, first: u32) -> bool
     ensures { λ r. ⌜ r ≡ hasFrom 32 set first ⌝ }
 {
     is_any_in(set, 32, first)
 }
 
 // Whether some state from `first` on is in the set.
-pub fn has_states_from(set: u8, first: u32) -> bool
+pub(crate) fn has_states_from(set: u8, first: u32) -> bool
     ensures { λ r. ⌜ r ≡ hasFrom 8 set first ⌝ }
 {
     is_any_in(set as u32, 8, first)
