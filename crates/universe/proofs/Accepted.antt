@@ -19,7 +19,11 @@ use Rattle.universe.proofs.PackedRead.{packed-read, universe-same}
 -- what is accepted is the packed form of what was read, and of no other universe
 pub accepted : (bs : List ℕ) (held : Tables) → Bytes bs → tablesRead bs ≡ Ok held → FormOf bs held
 accepted bs held b r =
-    (packed-back bs held b r, λ u v e. ap universeOf (ok-same held _ (sym r ∙ (ap tablesRead e ∙ packed-read u v))) ∙ universe-same u v)
+    record {
+      valid = read-sound bs held r .valid;
+      form = packed-back bs held b r;
+      only = λ u v e. ap universeOf (ok-same held _ (sym r ∙ (ap tablesRead e ∙ packed-read u v))) ∙ universe-same u v;
+    }
 
 -- what is refused is the packed form of no universe
 pub refused : (bs : List ℕ) (d : UniverseRefusal) → tablesRead bs ≡ Err d → FormOfNone bs

@@ -39,9 +39,11 @@ headerBits types ports = types * 2 ^ 11 + ports * 2 ^ 5
 abbrev pub packedForm : Universe → List ℕ
 packedForm u = headerBits (u .types) (u .ports) / 2 ^ 8 ∷ (headerBits (u .types) (u .ports) % 2 ^ 8 ∷ rows (kindForm u) 0 (u .types))
 
--- the bytes are the packed form of the universe that the tables hold, and of no other
-abbrev pub FormOf : List ℕ → Tables → Type 0
-FormOf bs held = (bs ≡ packedForm (universeOf held)) × ((u : Universe) → Valid u → bs ≡ packedForm u → universeOf held ≡ u)
+-- the tables hold a valid universe, and the bytes are the packed form of that universe and of no other
+pub record FormOf (bs : List ℕ) (held : Tables) : Type 0 where
+  pub valid : Valid (universeOf held)
+  pub form : bs ≡ packedForm (universeOf held)
+  pub only : (u : Universe) → Valid u → bs ≡ packedForm u → universeOf held ≡ u
 
 -- the bytes are the packed form of no universe
 abbrev pub FormOfNone : List ℕ → Type 0

@@ -17,6 +17,7 @@ use Rattle.universe.specs.declared.groups.Header.{Header}
 use Rattle.universe.specs.Sets.{has, hasFrom}
 use Rattle.universe.specs.Tables.{blankState, unusedKind}
 
+-- what a reading gives: a value, or why it is refused
 abbrev pub Read : Type 0 → Type 0
 Read X = Result X UniverseRefusal
 
@@ -33,6 +34,7 @@ andThen (Err e) f = Err e
 abbrev pub filled : {X : Type 0} → ℕ → X → List X → List X
 filled n d xs = xs ++ replicate (n - length xs) d
 
+-- the number is below the lowest or above the highest
 abbrev pub outside : ℕ → ℕ → ℕ → Bool
 outside low high n = ltb n low || ltb high n
 
@@ -82,6 +84,7 @@ many one size q zero bs = Ok []
 many one size q (suc n) bs =
     andThen (one q bs) (λ x. andThen (many one size (suc q) n (drop (size x) bs)) (λ xs. Ok (x ∷ xs)))
 
+-- the bytes of a state's entry
 abbrev pub stateSize : State → ℕ
 stateSize s = 9
 
@@ -89,6 +92,7 @@ stateSize s = 9
 abbrev pub kindOf : List State → Kind
 kindOf ss = record { count = length ss; states = filled 8 blankState ss }
 
+-- the bytes of a type
 abbrev pub kindSize : Kind → ℕ
 kindSize k = 1 + 9 * k .count
 
@@ -102,6 +106,7 @@ unfoldable pub total : {X : Type 0} → (X → ℕ) → List X → ℕ
 total size [] = 0
 total size (x ∷ xs) = size x + total size xs
 
+-- the tables with these counts and types
 abbrev pub tablesOf : Header → List Kind → Tables
 tablesOf h ks = record { types = h .types; ports = h .ports; kinds = filled 16 unusedKind ks }
 
