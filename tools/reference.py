@@ -1,7 +1,8 @@
 #!/usr/bin/env python3
 """An implementation of the packed forms apart from the product's, and the tables of worked cases.
 
-It is written from docs/FORMATS.md and docs/REFUSALS.md alone and shares no code with the crates.
+It follows the rules that docs/FORMATS.md and docs/REFUSALS.md state and shares no code with the crates.
+It has the same author as they, so a rule that was misread would be misread in both.
 Run from the repository's root, it writes the inputs to crates/cases/data/ and what the program
 `cases` has to print for them to crates/cases/stdout.
 """
