@@ -1,5 +1,7 @@
 // Worked cases: the program reads tables of inputs from its data files, and prints what the library answers
 // to each. Its expected output is made by another implementation of the formats, tools/reference.py.
+#![tactic(auto)]
+
 use console::describe::universe_report;
 use console::hex::parse_hex;
 use console::report::Report;

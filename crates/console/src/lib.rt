@@ -1,4 +1,6 @@
 // What the commands print, as text made from values.
+#![tactic(auto)]
+
 pub mod describe;
 pub mod hex;
 pub mod report;

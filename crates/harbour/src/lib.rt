@@ -1,4 +1,6 @@
 // The harbour: a universe of shore services, and worked cases of the whole, which hold by computation.
+#![tactic(auto)]
+
 ghost use Rattle.std.specs.Prelude.{◌≡◌};
 ghost use Rattle.harbour.specs.Cases.{HarbourCases};
 ghost use Rattle.harbour.specs.Harbour.{harbour_file};

@@ -1,5 +1,7 @@
 // Worked cases of hosts: the program reads tables of orders from its data files, and prints what hosts answer
 // to them. Its expected output is made by another implementation of the rules, tools/reference.py.
+#![tactic(auto)]
+
 use cloud::Cloud;
 use console::hex::parse_hex;
 use harbour::universe_file;

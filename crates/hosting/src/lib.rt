@@ -1,4 +1,6 @@
 // What the command `host` prints of the orders that it gives, made from values.
+#![tactic(auto)]
+
 ghost use Rattle.std.specs.Prelude.{◌≡◌, IfOk, string_bytes, OnOk};
 ghost use Rattle.hosts.specs.Answers.{meaning};
 ghost use Rattle.hosting.specs.Hosting.{Reported, Told, ToldMore, answer_text_of, answered_line_of, end_line_of, line_of, load_text_of, order_line_of, standing_line_of, survey_line, yes_no_of};

@@ -1,2 +1,4 @@
 // Layers: hosts that stand over others.
+#![tactic(auto)]
+
 pub mod verifying;

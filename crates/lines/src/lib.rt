@@ -3,6 +3,8 @@
 // The fields of a line, from the most significant bit: operation 3 bits, first instance 8,
 // second instance 8, port 5, type 4, state 3, and one spare bit. Fields that an order has no
 // use for, and the spare bit, are zero.
+#![tactic(auto)]
+
 ghost use Rattle.std.specs.Prelude.{◌≡◌};
 ghost use Rattle.lines.specs.Line.{encoded, decoded, LinesBounded, RoundTrip};
 

@@ -1,4 +1,6 @@
 // The model: universes, configurations, orders and runs, and the laws about them.
+#![tactic(auto)]
+
 ghost use Rattle.model.specs.Laws.{CountLaw, EmptyLaw, FormedLaw, OpeningLaw, PrefixLaw, RunLaw, SearchLaw};
 
 pub mod order;

@@ -1,5 +1,7 @@
 // Options among the words behind a command. A word that begins with `--` is an option, and the word behind it is its
 // value; every other word is plain.
+#![tactic(auto)]
+
 ghost use Rattle.std.specs.Prelude.{◌≡◌, map, string_bytes};
 ghost use Rattle.options.specs.Options.{begun, ended, flag_of_text, flag_text, given_by, has, heard, host_options_of, option_test, layers_of_text, plain_place_of, same, valued, with_value_of};
 

@@ -1,4 +1,6 @@
 // Piles of layers over a fresh cloud, as the command `host` makes them.
+#![tactic(auto)]
+
 ghost use Rattle.std.specs.Prelude.{◌≡◌, IfOk, string_bytes};
 ghost use Rattle.universe.specs.Reading.{tables_read};
 ghost use Rattle.universe.specs.Tables.{universe_of};

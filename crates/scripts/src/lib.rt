@@ -1,4 +1,6 @@
 // Scripts as files and texts: what the commands `lines` and `pack` read, print and write.
+#![tactic(auto)]
+
 ghost use Rattle.std.specs.Prelude.{◌≡◌, ◌/◌, ◌<◌, ◌≤◌, ◌++◌, length, is_some, is_err, IfOk, vec_items, string_bytes};
 ghost use Rattle.std.specs.Option.{option_map};
 ghost use Rattle.scripts.specs.Scripts.{pack_text_of, refusal_text_of, order_row_of, line_text, lines_text, lines_refused};

@@ -1,4 +1,6 @@
 // The program: it reads its arguments and files, and prints what the library makes of them.
+#![tactic(auto)]
+
 use anyhow::anyhow;
 use console::describe::universe_report;
 use console::report::Report;

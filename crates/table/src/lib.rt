@@ -1,4 +1,6 @@
 // The table of what stands in a universe: instances by number, and bindings in rising order.
+#![tactic(auto)]
+
 pub mod limits;
 mod records;
 mod rows;

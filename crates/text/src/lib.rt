@@ -1,4 +1,6 @@
 // The written form of orders, both ways.
+#![tactic(auto)]
+
 ghost use Rattle.std.specs.Prelude.{◌≡◌, ◌≤◌, length, drop, IfOk, string_bytes};
 ghost use Rattle.text.specs.Law.{WrittenLaw};
 ghost use Rattle.text.specs.Written.{written, grown, number_of, blank, front, rest, two, three, lettered, letter_of_order, order_of};

@@ -1,4 +1,6 @@
 // Universes as the product holds them, and the reading of their packed files.
+#![tactic(auto)]
+
 mod groups;
 pub mod held;
 pub mod reading;
