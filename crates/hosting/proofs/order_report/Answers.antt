@@ -3,6 +3,6 @@ use Rattle.hosting.proofs.order_report.Goals as goal
 
 pub returns : goal.returns
 returns g c =
-    IfOk-weaker c.answered-line.result _ _
+    IfOk-weaker c.answered_line.result _ _
     (λ s e. record { answer = c.give-answer.result; answered = c.give-answer.ensures; line = e })
-    c.answered-line.ensures
+    c.answered_line.ensures

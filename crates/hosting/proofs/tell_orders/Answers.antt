@@ -10,9 +10,9 @@ loop-order-init g c = told_none _ _
 pub loop-order-preserved : goal.loop-order-preserved
 loop-order-preserved g c =
     let h : c.loop-order.order-index < length c.args.orders.now = omega arith in
-    told_more _ _ _ _ _ _ _ _ _ _ c.loop-order.invariant c.in-ok-order-report.ensures
+    told_more _ _ _ _ _ _ _ _ _ _ c.loop-order.invariant c.in_ok-order_report.ensures
     (take_more c.args.orders.now c.loop-order.order-index (Create 0 0) h)
-    (c.in-ok-push-str.ensures.bytes ∙ ap (λ bs. string_bytes c.loop-order.text ++ bs) c.deref.ensures)
+    (c.in_ok-push_str.ensures.bytes ∙ ap (λ bs. string_bytes c.loop-order.text ++ bs) c.deref.ensures)
 
 pub returns : goal.returns
 returns g c = let e = take_all c.loop-order.order-index c.args.orders.now (omega arith) in rw e at c.loop-order.invariant

@@ -7,15 +7,15 @@ use Rattle.piles.proofs.pile_report.Goals as goal
 
 pub returns-in-None : goal.returns-in-None
 returns-in-None c =
-    piled_report _ _ c.args.options None c.fresh-cloud-cloud.result _ _ _ c.in-None.is c.fresh-cloud-cloud.ensures refl c.host-report.ensures
+    piled_report _ _ c.args.options None c.fresh_cloud-cloud.result _ _ _ c.in-None.is c.fresh_cloud-cloud.ensures refl c.host_report.ensures
 
 pub returns-in-Verifying : goal.returns-in-Verifying
 returns-in-Verifying c =
     piled_report _ _ c.args.options Verifying c.over.result.below _ _ _ c.in-Verifying.is
-    (ap state c.over.ensures ∙ c.fresh-cloud-cloud.ensures) refl c.host-report-in-Verifying.ensures
+    (ap state c.over.ensures ∙ c.fresh_cloud-cloud.ensures) refl c.host_report-in-Verifying.ensures
 
 pub returns-in-VerifyingTwice : goal.returns-in-VerifyingTwice
 returns-in-VerifyingTwice c =
     piled_report _ _ c.args.options VerifyingTwice c.over-in-VerifyingTwice-2.result.below.below _ _ _ c.in-VerifyingTwice.is
-    (ap state (ap (λ (v : Layer Cloud). v.below) c.over-in-VerifyingTwice-2.ensures ∙ c.over-in-VerifyingTwice.ensures) ∙ c.fresh-cloud-cloud.ensures)
-    refl c.host-report-in-VerifyingTwice.ensures
+    (ap state (ap (λ (v : Layer Cloud). v.below) c.over-in-VerifyingTwice-2.ensures ∙ c.over-in-VerifyingTwice.ensures) ∙ c.fresh_cloud-cloud.ensures)
+    refl c.host_report-in-VerifyingTwice.ensures

@@ -7,25 +7,25 @@ pub returns-then-not-branch : goal.returns-then-not-branch
 returns-then-not-branch c =
     let some : 0 < length c.loop-rest.rest.now = search rules in
     let bad : is_some (line_orders (first_line c.loop-rest.rest.now)) ≡ false
-    = ap (λ t. is_some (line_orders t)) (sym c.split-line.ensures.first) ∙ sym c.in-ok-parse-line.ensures.good ∙ c.if-not-branch.true in
+    = ap (λ t. is_some (line_orders t)) (sym c.split_line.ensures.first) ∙ sym c.in_ok-parse_line.ensures.good ∙ c.if-not-branch.true in
     orders_bad (vec_items c.loop-rest.orders) (c.loop-rest.before + 1) c.loop-rest.rest.now some bad ∙ c.loop-rest.invariant.0
 
 pub loop-rest-smaller : goal.loop-rest-smaller
 loop-rest-smaller c =
     let some : 0 < length c.loop-rest.rest.now = search rules in
-    rw c.split-line.ensures.later (later_shorter c.loop-rest.rest.now some)
+    rw c.split_line.ensures.later (later_shorter c.loop-rest.rest.now some)
 
 pub loop-rest-preserved : goal.loop-rest-preserved
 loop-rest-preserved c =
     let some : 0 < length c.loop-rest.rest.now = search rules in
-    let first = c.split-line.ensures.first in
-    let later = c.split-line.ensures.later in
+    let first = c.split_line.ensures.first in
+    let later = c.split_line.ensures.later in
     let good : is_some (line_orders (first_line c.loop-rest.rest.now)) ≡ true
-    = ap (λ t. is_some (line_orders t)) (sym first) ∙ sym c.in-ok-parse-line.ensures.good ∙ c.if-not-branch.false in
-    let pushed : vec_items c.parse-line.new.orders ≡ vec_items c.loop-rest.orders ++ told (line_orders (first_line c.loop-rest.rest.now))
-    = c.in-ok-parse-line.ensures.items ∙ ap (λ t. vec_items c.loop-rest.orders ++ told (line_orders t)) first in
+    = ap (λ t. is_some (line_orders t)) (sym first) ∙ sym c.in_ok-parse_line.ensures.good ∙ c.if-not-branch.false in
+    let pushed : vec_items c.parse_line.new.orders ≡ vec_items c.loop-rest.orders ++ told (line_orders (first_line c.loop-rest.rest.now))
+    = c.in_ok-parse_line.ensures.items ∙ ap (λ t. vec_items c.loop-rest.orders ++ told (line_orders t)) first in
     let shorter = later_shorter c.loop-rest.rest.now some in (
-      ap (λ t. after (vec_items c.parse-line.new.orders) (orders_from (c.loop-rest.before + 1 + 1) (text_lines t))) later
+      ap (λ t. after (vec_items c.parse_line.new.orders) (orders_from (c.loop-rest.before + 1 + 1) (text_lines t))) later
           ∙ ap (λ t. after t (orders_from (c.loop-rest.before + 1 + 1) (text_lines (later_lines c.loop-rest.rest.now)))) pushed
           ∙ orders_more (vec_items c.loop-rest.orders) (c.loop-rest.before + 1) c.loop-rest.rest.now some good
           ∙ c.loop-rest.invariant.0,

@@ -11,6 +11,6 @@ returns-then-at-text c = record {
 
 pub returns : goal.returns
 returns c = record {
-  first = simp c.find-newline-at.ensures.value;
-  later = rw take_rest (simp c.find-newline-at.ensures.value);
+  first = simp c.find_newline-at.ensures.value;
+  later = rw take_rest (simp c.find_newline-at.ensures.value);
 }

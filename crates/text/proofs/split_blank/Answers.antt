@@ -11,6 +11,6 @@ returns-then-at-bytes c = record {
 
 pub returns : goal.returns
 returns c = record {
-  front = simp c.find-blank-at.ensures.value;
-  rest = rw take_rest (simp c.find-blank-at.ensures.value);
+  front = simp c.find_blank-at.ensures.value;
+  rest = rw take_rest (simp c.find_blank-at.ensures.value);
 }

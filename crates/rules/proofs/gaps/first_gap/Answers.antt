@@ -10,13 +10,13 @@ loop-instance-init g c = first_none _
 pub loop-instance-preserved : goal.loop-instance-preserved
 loop-instance-preserved g c =
     first_more _ c.loop-instance.instance c.loop-instance.invariant
-    (sym c.first-gap-of-gap.ensures ∙ none_is _ (sym c.if-is-some.ensures))
+    (sym c.first_gap_of-gap.ensures ∙ none_is _ (sym c.if-is_some.ensures))
 
-pub returns-then-is-some : goal.returns-then-is-some
-returns-then-is-some g c =
+pub returns-then-is_some : goal.returns-then-is_some
+returns-then-is_some g c =
     let s = g.S.Survey.situation c.args.survey.now in
     let e = found_first s.universe (foreseen c.args.prospect s.config) c.loop-instance.instance _
-    c.loop-instance-test.true c.loop-instance.invariant c.first-gap-of-gap.ensures (sym c.if-is-some.ensures) in
+    c.loop-instance-test.true c.loop-instance.invariant c.first_gap_of-gap.ensures (sym c.if-is_some.ensures) in
     let law = g.S.Survey.lawful c.args.survey.now in
     record { value = e; law = told s law c.args.prospect _ e; whole = whole s law c.args.prospect _ e }
 

@@ -10,14 +10,14 @@ loop-provider-init g c = any_none _
 pub loop-provider-preserved : goal.loop-provider-preserved
 loop-provider-preserved g c =
     any_more _ c.loop-provider.provider c.loop-provider.invariant
-    (cover_in (g.S.Survey.situation c.args.survey.now) c.args.prospect c.args.port _ _ ∙ (sym c.does-cover.ensures ∙ c.if-does-cover.false))
+    (cover_in (g.S.Survey.situation c.args.survey.now) c.args.prospect c.args.port _ _ ∙ (sym c.does_cover.ensures ∙ c.if-does_cover.false))
 
-pub returns-then-does-cover : goal.returns-then-does-cover
+pub returns-then-does_cover : goal.returns-then-does_cover
 unfolding covered
-returns-then-does-cover g c =
-    sym (any_found _ c.loop-provider.provider 256 c.loop-provider-test.true
-    (cover_in (g.S.Survey.situation c.args.survey.now) c.args.prospect c.args.port _ _ ∙ (sym c.does-cover.ensures ∙ c.if-does-cover.true)))
+returns-then-does_cover g c =
+    sym (any_found _ c.loop-provider.provider 256 c.loop-provider_test.true
+    (cover_in (g.S.Survey.situation c.args.survey.now) c.args.prospect c.args.port _ _ ∙ (sym c.does_cover.ensures ∙ c.if-does_cover.true)))
 
 pub returns : goal.returns
 unfolding covered
-returns g c = sym (any_end _ c.loop-provider.provider 256 c.loop-provider.invariant c.loop-provider.auto.provider-end c.loop-provider-test.false)
+returns g c = sym (any_end _ c.loop-provider.provider 256 c.loop-provider.invariant c.loop-provider.auto.provider-end c.loop-provider_test.false)

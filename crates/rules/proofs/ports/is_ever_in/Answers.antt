@@ -6,11 +6,11 @@ pub loop-state-init : goal.loop-state-init
 loop-state-init c = any_none _
 
 pub loop-state-preserved : goal.loop-state-preserved
-loop-state-preserved c = any_more _ c.loop-state.state c.loop-state.invariant (sym c.has-port.ensures ∙ c.if-has-port.false)
+loop-state-preserved c = any_more _ c.loop-state.state c.loop-state.invariant (sym c.has_port.ensures ∙ c.if-has_port.false)
 
-pub returns-then-has-port : goal.returns-then-has-port
-returns-then-has-port c =
-    sym (any_found _ c.loop-state.state _ (omega (arith, c.states-state-end.ensures)) (sym c.has-port.ensures ∙ c.if-has-port.true))
+pub returns-then-has_port : goal.returns-then-has_port
+returns-then-has_port c =
+    sym (any_found _ c.loop-state.state _ (omega (arith, c.states-state-end.ensures)) (sym c.has_port.ensures ∙ c.if-has_port.true))
 
 pub returns : goal.returns
 returns c =

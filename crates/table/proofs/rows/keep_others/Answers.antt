@@ -2,7 +2,7 @@ use Rattle.std.proofs.Common.{◌<◌, length, sym, ◌∙◌, arith}
 use Rattle.std.proofs.lemmas.Bool.{eqb-true, eqb-false}
 use Rattle.table.proofs.RowTurns.{keep_one, keep_not, keep_rest}
 use Rattle.table.proofs.rows.keep_others.Goals as goal
-use Rattle.table.proofs.rows.keep_others.Goals.{then-not-ends-at, else-not-ends-at}
+use Rattle.table.proofs.rows.keep_others.Goals.{then-not-ends_at, else-not-ends_at}
 
 pub loop-i-preserved : goal.loop-i-preserved
 loop-i-preserved c =
@@ -16,17 +16,17 @@ loop-i-preserved c =
     let rest = c.loop-i.invariant.1 in
     let li : i < n = c.loop-i-test.true in
     let room : i < length ys = omega arith in
-    let test = sym c.ends-at.ensures in
-    elim c.if-not-ends-at.branch [
-      | then-not-ends-at w ↦
-          let ne = eqb-false _ _ (test ∙ w.if-not-ends-at.true) in
+    let test = sym c.ends_at.ensures in
+    elim c.if-not-ends_at.branch [
+      | then-not-ends_at w ↦
+          let ne = eqb-false _ _ (test ∙ w.if-not-ends_at.true) in
           rw (w.rows-is, w.left-is) (
             keep_one xs ys n i m z c.requires.1 li kept rest room ne,
             keep_rest xs ys n i m z c.requires.1 li kept rest room ne,
           )
-      | else-not-ends-at w ↦
+      | else-not-ends_at w ↦
           rw (w.rows-is, w.left-is) (
-            keep_not xs ys n i m z c.requires.1 li kept rest (eqb-true _ _ (test ∙ w.if-not-ends-at.false)),
+            keep_not xs ys n i m z c.requires.1 li kept rest (eqb-true _ _ (test ∙ w.if-not-ends_at.false)),
             λ k l. rest k (omega arith),
           )
     ]

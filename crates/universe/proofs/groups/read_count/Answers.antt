@@ -2,9 +2,9 @@ use Rattle.std.proofs.Common.{rules}
 use Rattle.universe.specs.Reading.{count_read}
 use Rattle.universe.proofs.groups.read_count.Goals as goal
 
-pub returns-then-is-empty : goal.returns-then-is-empty
+pub returns-then-is_empty : goal.returns-then-is_empty
 unfolding count_read
-returns-then-is-empty c = search rules
+returns-then-is_empty c = search rules
 
 pub returns : goal.returns
 unfolding count_read

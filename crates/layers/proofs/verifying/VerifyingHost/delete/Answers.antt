@@ -4,7 +4,7 @@ use Rattle.layers.proofs.verifying.VerifyingHost.delete.Goals as goal
 
 pub returns : goal.returns
 returns g c =
-    let a = c.relay-delete.ensures in
+    let a = c.relay_delete.ensures in
     record {
       answered = relayed_answers _ _ _ _ _ _ _ _ (g.B.Host.sane _) (λ e. (ap g.B.Survey.situation e, ap g.B.Host.service e)) a;
       relayed = a;

@@ -7,5 +7,5 @@ overflow-sub-self c = count_some c.args.self.now c.requires.0 c.args.instance (o
 
 pub returns : goal.returns
 returns c =
-    let size : length c.keep-others-self.new.rows ≡ length c.args.self.now.rows = omega arith in
-    deleted c.args.self.now c.requires.0 c.args.instance (omega arith) c.requires.1 c.keep-others-self.new.rows c.keep-others-self.result size c.keep-others-self.ensures
+    let size : length c.keep_others-self.new.rows ≡ length c.args.self.now.rows = omega arith in
+    deleted c.args.self.now c.requires.0 c.args.instance (omega arith) c.requires.1 c.keep_others-self.new.rows c.keep_others-self.result size c.keep_others-self.ensures

@@ -15,4 +15,4 @@ returns c =
     let t = c.args.self.now in
     held_found t.rows t.len c.requires.ordered (binding_of c.args.port c.args.provider c.args.requirer)
     (record { provider = omega arith; requirer = omega arith; port = omega arith })
-    c.rank-rank.result c.place-of-place.result (c.rank-rank.ensures ∙ ap rank c.new.ensures) c.place-of-place.ensures _ c.is-at.ensures
+    c.rank-rank.result c.place_of-place.result (c.rank-rank.ensures ∙ ap rank c.new.ensures) c.place_of-place.ensures _ c.is_at.ensures

@@ -10,4 +10,4 @@ returns-then-instance-gt255 c =
 pub returns : goal.returns
 returns c =
     let t = c.args.self.now in
-    provider_found t.rows t.len c.requires.ordered (config_of t).inst c.args.instance c.place-of-place.result c.place-of-place.ensures _ c.is-from.ensures
+    provider_found t.rows t.len c.requires.ordered (config_of t).inst c.args.instance c.place_of-place.result c.place_of-place.ensures _ c.is_from.ensures

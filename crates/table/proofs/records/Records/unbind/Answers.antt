@@ -2,16 +2,16 @@ use Rattle.std.proofs.Common.{◌≡◌, length, arith}
 use Rattle.table.proofs.Performed.{row_at, unbound}
 use Rattle.table.proofs.records.Records.unbind.Goals as goal
 
-pub close-at-requires : goal.close-at-requires
-close-at-requires c =
+pub close_at-requires : goal.close_at-requires
+close_at-requires c =
     let at =
     row_at c.args.self.now c.requires.0 c.args.binding (record { provider = omega arith; requirer = omega arith; port = c.requires.1 })
-    c.rank.result c.place-of-place.result c.rank.ensures c.place-of-place.ensures c.requires.2 in
+    c.rank.result c.place_of-place.result c.rank.ensures c.place_of-place.ensures c.requires.2 in
     (at.0, omega (arith, c.requires.0.most, c.requires.0.room))
 
 pub returns : goal.returns
 returns c =
-    let size : length c.close-at.new.rows ≡ length c.args.self.now.rows = omega arith in
+    let size : length c.close_at.new.rows ≡ length c.args.self.now.rows = omega arith in
     unbound c.args.self.now c.requires.0 c.args.binding (record { provider = omega arith; requirer = omega arith; port = c.requires.1 })
-    c.rank.result c.place-of-place.result c.rank.ensures c.place-of-place.ensures c.requires.2
-    c.close-at.new.rows size c.close-at.ensures
+    c.rank.result c.place_of-place.result c.rank.ensures c.place_of-place.ensures c.requires.2
+    c.close_at.new.rows size c.close_at.ensures

@@ -8,8 +8,8 @@ perform-requires c =
     let s = c.args.self.now in
     (fit s, able c.args.order (held_of s.universe.tables s.records s.limits) (lawful s) s.room c.requires)
 
-pub invariant-of-self : goal.invariant-of-self
-invariant-of-self c =
+pub invariant_of-self : goal.invariant_of-self
+invariant_of-self c =
     let s = c.args.self.now in
     let t = c.perform.new.self in
     let done = c.perform.ensures in (

@@ -3,4 +3,4 @@ use Rattle.table.proofs.table.Table.rule.Goals as goal
 
 pub returns : goal.returns
 unfolding table_rule
-returns c = c.first-rule.ensures
+returns c = c.first_rule.ensures

@@ -1,4 +1,4 @@
 use Rattle.universe.proofs.held.Universe.holding.Goals as goal
 
-pub invariant-of-result : goal.invariant-of-result
-invariant-of-result c = (∣ c.requires ∣₁, tt)
+pub invariant_of-result : goal.invariant_of-result
+invariant_of-result c = record { sound = ∣ c.requires ∣₁ }
