@@ -46,6 +46,15 @@ def respelled(name):
     return re.sub(r"(?<=[a-z0-9])([A-Z])", lambda m: "_" + m[1], name).lower().replace("-", "_")
 
 
+def result_renamed(path, text):
+    """A clause names what a call returns `result`: what an order makes of a configuration has the name `result_of`."""
+    if path.endswith(".antt"):
+        return "\n".join(
+            re.sub(r"(?<![\w.'-])result(?![\w'-])", "result_of", code) + mark + comment
+            for code, mark, comment in (line.partition("--") for line in text.split("\n")))
+    return text.replace("(result (", "(result_of (").replace("specs.Orders.{result,", "specs.Orders.{result_of,")
+
+
 def main():
     files = {path: open(path, encoding="utf-8").read() for path in texts("crates")}
     turned = {}
@@ -56,6 +65,14 @@ def main():
             m = DECLARED.match(line)
             if m and not OF_A_GOAL.search(line) and respelled(m[1]) != m[1]:
                 turned[m[1]] = respelled(m[1])
+    for path, text in files.items():
+        files_new = result_renamed(path, text)
+        if files_new != text:
+            with open(path, "w", encoding="utf-8") as f:
+                f.write(files_new)
+            files[path] = files_new
+    if not turned:
+        return 0
     token = re.compile(r"(?<![\w'-])(" + "|".join(sorted(map(re.escape, turned), key=len, reverse=True)) + r")(?![\w'-])")
     words = set()
     for text in files.values():

@@ -5,7 +5,7 @@ use Rattle.std.proofs.lemmas.Bool.{cases_lt, eqb-true}
 use Rattle.model.specs.declared.order.Order.{Order}
 use Rattle.model.specs.declared.order.Order.TheVariants.{Create, Bind, Change, Unbind, Delete}
 use Rattle.model.specs.Gaps.{GapFree}
-use Rattle.model.specs.Orders.{result}
+use Rattle.model.specs.Orders.{result_of}
 use Rattle.model.proofs.GapSearch.{search_law}
 use Rattle.hosts.specs.declared.refusal.Offence.{Offence}
 use Rattle.hosts.specs.declared.refusal.Reason.{Reason}
@@ -78,10 +78,10 @@ full_covers (Unbind p x y) l c e = false≢true e
 full_covers (Delete z) l c e = false≢true e
 
 -- a gap-free result is found gap-free
-leaves_none : (o : Order) (s : Situation) → Lawful s → offence o s ≡ None → GapFree s.universe (result o s.config) → leaves_gap o s ≡ false
+leaves_none : (o : Order) (s : Situation) → Lawful s → offence o s ≡ None → GapFree s.universe (result_of o s.config) → leaves_gap o s ≡ false
 leaves_none o s law none free =
     let after = lawful_after s law o none in
-    (search_law 256 s.universe (result o s.config) law.valid (lawful_below _ after)).1 free
+    (search_law 256 s.universe (result_of o s.config) law.valid (lawful_below _ after)).1 free
 
 pub busy_law : BusyLaw
 busy_law o m n r a e =

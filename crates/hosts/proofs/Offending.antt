@@ -8,7 +8,7 @@ use Rattle.model.specs.declared.order.Order.TheVariants.{Create, Bind, Change, U
 use Rattle.model.specs.Search.{any}
 use Rattle.model.specs.Universe.{Universe, Valid}
 use Rattle.model.specs.Config.{Config, WellFormed, stands, passes, ever_provides, ever_requires}
-use Rattle.model.specs.Orders.{Legal, result}
+use Rattle.model.specs.Orders.{Legal, result_of}
 use Rattle.model.specs.Bounded.{Below}
 use Rattle.model.proofs.Searches.{refuted, any_found, any_none_of, any_some}
 use Rattle.model.proofs.Results.{passes_some, create_off, create_bound, bind_inst, bind_cases, change_off, change_bound, unbind_inst, unbind_was, delete_at, delete_off, delete_was}
@@ -147,7 +147,7 @@ module _ (s : Situation) (law : Lawful s) where
       (if_none _ _ _ (alone z l.unused) refl))
 
   abbrev After : Order → Type 0
-  After o = Lawful (record { universe = u; config = result o c })
+  After o = Lawful (record { universe = u; config = result_of o c })
 
   -- who stands above 255 is not the one that an order in range names
   apart : (y z : ℕ) → 256 ≤ y → z < 256 → y ≢ z
@@ -187,7 +187,7 @@ module _ (s : Situation) (law : Lawful s) where
       record {
         valid = law.valid;
         inst = λ y out. elim (cases_eq y z) [
-          | inl e ↦ ap (result (Delete z) c).inst e ∙ delete_at c z
+          | inl e ↦ ap (result_of (Delete z) c).inst e ∙ delete_at c z
           | inr ne ↦ delete_off c z y ne ∙ law.inst y out
         ];
         bound = λ p x y b. law.bound p x y (delete_was c z p x y b).0;

@@ -2,7 +2,7 @@
 use Rattle.std.specs.Prelude.{◌≡◌, ℕ, ◌+◌, ◌-◌, ◌<◌, ◌≤◌, Bool, true, false, cond, ◌&&◌, Some, None, Ok, Err, Option, Result, ◌==◌}
 use Rattle.model.specs.declared.order.Order.{Order}
 use Rattle.model.specs.declared.order.Order.TheVariants.{Create, Bind, Change, Unbind, Delete}
-use Rattle.model.specs.Orders.{result}
+use Rattle.model.specs.Orders.{result_of}
 use Rattle.model.specs.Bounded.{any_gap}
 use Rattle.hosts.specs.declared.refusal.Offence.{Offence}
 use Rattle.hosts.specs.declared.refusal.Reason.{Reason}
@@ -70,7 +70,7 @@ full_test (Delete z) l = false
 
 -- some instance has a gap in the result of the order
 abbrev pub leaves_gap : Order → Situation → Bool
-leaves_gap o s = any_gap 256 s.universe (result o s.config)
+leaves_gap o s = any_gap 256 s.universe (result_of o s.config)
 
 -- the offence as a reason, if there is one, else what follows
 abbrev pub illegal_or : Option Offence → Option Reason → Option Reason
@@ -87,7 +87,7 @@ decision o m =
 
 -- what stands after the answer: the order's result where it is done, else what stood before
 abbrev pub settled : Order → Answer → Situation → Situation
-settled o (Ok x) s = record { universe = s.universe; config = result o s.config }
+settled o (Ok x) s = record { universe = s.universe; config = result_of o s.config }
 settled o (Err e) s = s
 
 -- one order fewer to put off, and all else as it was

@@ -5,7 +5,7 @@ use Rattle.model.specs.declared.order.Order.TheVariants.{Create, Bind, Change, U
 use Rattle.model.specs.Config.{WellFormed}
 use Rattle.model.specs.Gaps.{GapFree}
 use Rattle.model.specs.Counts.{instances, bindings}
-use Rattle.model.specs.Orders.{Legal, result}
+use Rattle.model.specs.Orders.{Legal, result_of}
 use Rattle.hosts.specs.declared.refusal.Reason.{Reason}
 use Rattle.hosts.specs.declared.refusal.Reason.TheVariants.{Busy, Illegal, Gap, Full}
 use Rattle.hosts.specs.Survey.{Situation, Lawful}
@@ -32,14 +32,14 @@ LegalLaw =
 abbrev pub LawfulLaw : Type 0
 LawfulLaw =
     (s : Situation) (o : Order) → Lawful s → offence o s ≡ None →
-    Lawful (record { universe = s.universe; config = result o s.config })
+    Lawful (record { universe = s.universe; config = result_of o s.config })
 
 -- an order without offence adds one instance if it is a create and one binding if it is a bind, and no more
 abbrev pub GrowthLaw : Type 0
 GrowthLaw =
     (s : Situation) (o : Order) → Lawful s → offence o s ≡ None →
-    (instances 256 (result o s.config) ≤ instances 256 s.config + cond (is_create o) 1 0) ×
-    (bindings 32 256 (result o s.config) ≤ bindings 32 256 s.config + cond (is_bind o) 1 0)
+    (instances 256 (result_of o s.config) ≤ instances 256 s.config + cond (is_create o) 1 0) ×
+    (bindings 32 256 (result_of o s.config) ≤ bindings 32 256 s.config + cond (is_bind o) 1 0)
 
 -- busy comes only while waits are above 0, lowers them by one, and leaves all else
 abbrev pub BusyLaw : Type 0
@@ -52,7 +52,7 @@ abbrev pub DoneLaw : Type 0
 DoneLaw =
     (o : Order) (m n : Meaning) (r : Answer) → Answered o m n r → reason_of r ≡ None →
     (m.service.load.waits ≡ 0) × (offence o m.situation ≡ None) ×
-    (n.situation ≡ record { universe = m.situation.universe; config = result o m.situation.config })
+    (n.situation ≡ record { universe = m.situation.universe; config = result_of o m.situation.config })
 
 -- a refusal leaves what stands
 abbrev pub RefusedLaw : Type 0
@@ -74,7 +74,7 @@ ExpectedLaw =
     (o : Order) (m n : Meaning) (r : Answer) → Lawful m.situation →
     WellFormed m.situation.universe m.situation.config →
     Legal m.situation.universe m.situation.config o → InRange o →
-    GapFree m.situation.universe (result o m.situation.config) →
+    GapFree m.situation.universe (result_of o m.situation.config) →
     Answered o m n r → Expected (reason_of r)
 
 -- the allowances cover the order

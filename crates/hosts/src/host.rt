@@ -57,7 +57,7 @@ pub trait Host: Survey {
 
 // Gives the host an order.
 pub fn give<B: Host>(host: &mut B, order: Order) -> Result<(), Refusal>
-    ensures { Answered order (meaning (B.Survey.situation host.old) (service host.old)) (meaning (B.Survey.situation host.new) (service host.new)) result }
+    ensures { Answered order (meaning (B.Survey.situation host.old) (B.service host.old)) (meaning (B.Survey.situation host.new) (B.service host.new)) result }
 {
     match order {
         Order::Create { instance, kind } => host.create(instance, kind),

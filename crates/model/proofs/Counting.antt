@@ -6,7 +6,7 @@ use Rattle.model.specs.declared.order.Order.TheVariants.{Create, Bind, Change, U
 use Rattle.model.specs.Search.{one}
 use Rattle.model.specs.Config.{Config, moved, stands}
 use Rattle.model.specs.Counts.{instances, bindings}
-use Rattle.model.specs.Orders.{result}
+use Rattle.model.specs.Orders.{result_of}
 use Rattle.model.specs.Laws.{CountLaw}
 use Rattle.model.proofs.Results.{Same, create_at, create_off, create_bound, bind_at, bind_inst, bind_off, change_at, change_off, change_bound, unbind_at, unbind_inst, unbind_off, delete_at, delete_bound, delete_off}
 use Rattle.model.proofs.Sums.{sum_le, sum_more, sum_most, sum_none, sum_same, one_less}
@@ -60,17 +60,17 @@ bindings_none m n c h = sum_none _ m (λ p. sum_none _ n (λ x. sum_none _ n (λ
 
 -- how a create, a delete and a change move the number of instances
 module _ (n : ℕ) (c : Config) (z : ℕ) where
-  pub create_counts : (t : ℕ) → z < n → stands (c.inst z) ≡ false → instances n (result (Create z t) c) ≡ instances n c + 1
+  pub create_counts : (t : ℕ) → z < n → stands (c.inst z) ≡ false → instances n (result_of (Create z t) c) ≡ instances n c + 1
   create_counts t low out =
-      instances_more n c (result (Create z t) c) z low (λ y ne. ap stands (create_off c z t y ne)) out (ap stands (create_at c z t))
+      instances_more n c (result_of (Create z t) c) z low (λ y ne. ap stands (create_off c z t y ne)) out (ap stands (create_at c z t))
 
-  pub delete_counts : z < n → stands (c.inst z) ≡ true → instances n c ≡ instances n (result (Delete z) c) + 1
+  pub delete_counts : z < n → stands (c.inst z) ≡ true → instances n c ≡ instances n (result_of (Delete z) c) + 1
   delete_counts low into =
-      instances_more n (result (Delete z) c) c z low (λ y ne. ap stands (sym (delete_off c z y ne))) (ap stands (delete_at c z)) into
+      instances_more n (result_of (Delete z) c) c z low (λ y ne. ap stands (sym (delete_off c z y ne))) (ap stands (delete_at c z)) into
 
-  pub change_counts : (q : ℕ) → instances n (result (Change z q) c) ≡ instances n c
+  pub change_counts : (q : ℕ) → instances n (result_of (Change z q) c) ≡ instances n c
   change_counts q =
-      instances_same n c (result (Change z q) c) (λ y. elim (cases_eq y z) [
+      instances_same n c (result_of (Change z q) c) (λ y. elim (cases_eq y z) [
         | inl e ↦ rw (e, change_at c z q) (still (c.inst z))
         | inr ne ↦ ap stands (change_off c z q y ne)
       ])
@@ -81,18 +81,18 @@ module _ (n : ℕ) (c : Config) (z : ℕ) where
 
 -- how each legal order moves the counts
 pub count_law : CountLaw
-count_law m n u c (Create z t) l = λ low. (create_counts n c z t low l.0, bindings_same m n c (result (Create z t) c) (create_bound c z t))
+count_law m n u c (Create z t) l = λ low. (create_counts n c z t low l.0, bindings_same m n c (result_of (Create z t) c) (create_bound c z t))
 count_law m n u c (Bind p x y) l = λ lp lx ly. (
-  instances_same n c (result (Bind p x y) c) (λ z. ap stands (bind_inst c p x y z)),
-  bindings_more m n c (result (Bind p x y) c) p x y lp lx ly (bind_off c p x y) l.new (bind_at c p x y),
+  instances_same n c (result_of (Bind p x y) c) (λ z. ap stands (bind_inst c p x y z)),
+  bindings_more m n c (result_of (Bind p x y) c) p x y lp lx ly (bind_off c p x y) l.new (bind_at c p x y),
 )
-count_law m n u c (Change z q) l = (change_counts n c z q, bindings_same m n c (result (Change z q) c) (change_bound c z q))
+count_law m n u c (Change z q) l = (change_counts n c z q, bindings_same m n c (result_of (Change z q) c) (change_bound c z q))
 count_law m n u c (Unbind p x y) l = λ lp lx ly. (
-  instances_same n c (result (Unbind p x y) c) (λ z. ap stands (unbind_inst c p x y z)),
-  bindings_more m n (result (Unbind p x y) c) c p x y lp lx ly
+  instances_same n c (result_of (Unbind p x y) c) (λ z. ap stands (unbind_inst c p x y z)),
+  bindings_more m n (result_of (Unbind p x y) c) c p x y lp lx ly
       (λ p' x' y' ne. sym (unbind_off c p x y p' x' y' ne)) (unbind_at c p x y) l,
 )
 count_law m n u c (Delete z) l = λ low. (
   delete_counts n c z low l.stands,
-  bindings_fewer m n c (result (Delete z) c) (λ p x y. rw (delete_bound c z p x y) (one_less (c.bound p x y) _)),
+  bindings_fewer m n c (result_of (Delete z) c) (λ p x y. rw (delete_bound c z p x y) (one_less (c.bound p x y) _)),
 )

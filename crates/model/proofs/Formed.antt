@@ -7,7 +7,7 @@ use Rattle.model.specs.declared.order.Order.TheVariants.{Create, Bind, Change, U
 use Rattle.model.specs.Search.{any}
 use Rattle.model.specs.Universe.{Universe, IsPair}
 use Rattle.model.specs.Config.{Config, WellFormed, empty, pair, ever_provides, ever_requires}
-use Rattle.model.specs.Orders.{result}
+use Rattle.model.specs.Orders.{result_of}
 use Rattle.model.specs.Laws.{EmptyLaw, FormedLaw}
 use Rattle.model.proofs.Results.{passes_some, create_at, create_off, create_bound, create_keeps, bind_inst, bind_cases, change_to, change_off, change_bound, change_kind, unbind_inst, unbind_was, delete_at, delete_off, delete_apart, delete_was}
 
@@ -64,21 +64,21 @@ empty_law u = (from_ends u empty (λ z h e. absurd (unsome h e)) (λ p x y b. ab
 -- each order leaves the pairs and the ends as they have to be
 pub formed_law : FormedLaw
 formed_law u c (Create z t) ok wf (free, low) =
-    let d : Config = result (Create z t) c in
+    let d : Config = result_of (Create z t) c in
     from_ends u d
     (pairs_but u c d z wf (create_off c z t) (paired u d z (pair t 0) (low, (ok.states t low).0) (create_at c z t)))
     (λ p x y b.
     let e = ends u c wf p x y (sym (create_bound c z t p x y) ∙ b) in
     (e.0, create_keeps c z t free _ x e.1, create_keeps c z t free _ y e.2))
 formed_law u c (Bind p x y) ok wf l =
-    let d : Config = result (Bind p x y) c in
+    let d : Config = result_of (Bind p x y) c in
     from_ends u d (λ z h e. wf.pairs z h (sym (bind_inst c p x y z) ∙ e)) (λ p' x' y' b.
     ends_at u c d p' x' y' (bind_inst c p x y x') (bind_inst c p x y y') (elim (bind_cases c p x y p' x' y' b) [
       | inl was ↦ ends u c wf p' x' y' was
       | inr new ↦ rw (new.0, new.1, new.2) (l.apart, l.provider, l.requirer)
     ]))
 formed_law u c (Change z q) ok wf l =
-    let d : Config = result (Change z q) c in
+    let d : Config = result_of (Change z q) c in
     let s = passes_some (c.inst z) _ l in
     let n = ok.next s.0.kind s.0.state q s.2 in
     from_ends u d
@@ -88,11 +88,11 @@ formed_law u c (Change z q) ok wf l =
     let keeps = λ (f : ℕ → ℕ → ℕ → Bool). change_kind c z q (λ k. any (λ q. f k q p) (u.states k)) in
     (e.0, keeps u.provides x ∙ e.1, keeps u.requires y ∙ e.2))
 formed_law u c (Unbind p x y) ok wf l =
-    let d : Config = result (Unbind p x y) c in
+    let d : Config = result_of (Unbind p x y) c in
     from_ends u d (λ z h e. wf.pairs z h (sym (unbind_inst c p x y z) ∙ e)) (λ p' x' y' b.
     ends_at u c d p' x' y' (unbind_inst c p x y x') (unbind_inst c p x y y') (ends u c wf p' x' y' (unbind_was c p x y p' x' y' b)))
 formed_law u c (Delete z) ok wf l =
-    let d : Config = result (Delete z) c in
+    let d : Config = result_of (Delete z) c in
     from_ends u d
     (pairs_but u c d z wf (delete_off c z) (λ h e. absurd (unsome h (sym (delete_at c z) ∙ e))))
     (λ p x y b.

@@ -7,7 +7,7 @@ use Rattle.model.specs.declared.order.Order.TheVariants.{Create, Bind, Change, U
 use Rattle.model.specs.Universe.{Universe}
 use Rattle.model.specs.Config.{Config, moved, provided, required}
 use Rattle.model.specs.Gaps.{Gap, GapFree}
-use Rattle.model.specs.Orders.{result}
+use Rattle.model.specs.Orders.{result_of}
 use Rattle.model.specs.Laws.{OpeningLaw}
 use Rattle.model.proofs.Results.{create_at, create_off, create_bound, create_keeps, bind_inst, bind_keeps, change_at, change_off, change_bound, unbind_inst, unbind_off, delete_at, delete_off, delete_bound_off, delete_apart}
 
@@ -33,7 +33,7 @@ abbrev stops : Universe → Config → ℕ → ℕ → ℕ → ℕ → Bool
 stops u c z' q z p = c.bound p z' z && (provided u p (c.inst z') && not (provided u p (moved (c.inst z') q)))
 
 -- a provider that does not stop providing is kept, and so are all others
-change_kept : (u : Universe) (c : Config) (z' q z p : ℕ) → stops u c z' q z p ≡ false → Kept u c (result (Change z' q) c) z p
+change_kept : (u : Universe) (c : Config) (z' q z p : ℕ) → stops u c z' q z p ≡ false → Kept u c (result_of (Change z' q) c) z p
 change_kept u c z' q z p goes_on x b v = (
   change_bound c z' q p x z ∙ b,
   elim (cases_eq x z') [

@@ -5,7 +5,7 @@ use Rattle.std.proofs.lemmas.Bool.{and_parts, and_right, both_ways, cases_eq, eq
 use Rattle.model.specs.declared.pair.Pair.{Pair}
 use Rattle.model.specs.declared.order.Order.TheVariants.{Create, Bind, Change, Unbind, Delete}
 use Rattle.model.specs.Config.{Config, moved, pair, passes, stands}
-use Rattle.model.specs.Orders.{Deletable, put, same, result}
+use Rattle.model.specs.Orders.{Deletable, put, same, result_of}
 use Rattle.model.proofs.Searches.{refuted}
 
 pub put_at : {A : Type 0} (f : ℕ → A) (z : ℕ) (a : A) → put f z a z ≡ a
@@ -38,21 +38,21 @@ module _ (p x y : ℕ) where
 
 -- create: the new instance is in state 0 of its type, and all else stays
 module _ (c : Config) (z t : ℕ) where
-  pub create_at : (result (Create z t) c).inst z ≡ Some (pair t 0)
-  unfolding result
+  pub create_at : (result_of (Create z t) c).inst z ≡ Some (pair t 0)
+  unfolding result_of
   create_at = put_at c.inst z _
 
-  pub create_off : (y : ℕ) → y ≢ z → (result (Create z t) c).inst y ≡ c.inst y
-  unfolding result
+  pub create_off : (y : ℕ) → y ≢ z → (result_of (Create z t) c).inst y ≡ c.inst y
+  unfolding result_of
   create_off y ne = put_off c.inst z _ y ne
 
-  pub create_bound : (p x y : ℕ) → (result (Create z t) c).bound p x y ≡ c.bound p x y
-  unfolding result
+  pub create_bound : (p x y : ℕ) → (result_of (Create z t) c).bound p x y ≡ c.bound p x y
+  unfolding result_of
   create_bound p x y = refl
 
   -- whatever passes at a number passes there still, if the new number was free
   pub create_keeps : stands (c.inst z) ≡ false → (f : Pair → Bool) (x : ℕ) →
-      passes (c.inst x) f ≡ true → passes ((result (Create z t) c).inst x) f ≡ true
+      passes (c.inst x) f ≡ true → passes ((result_of (Create z t) c).inst x) f ≡ true
   create_keeps free f x h = ap (λ o. passes o f) (create_off x other) ∙ h
     where
       other : x ≢ z
@@ -62,27 +62,27 @@ module _ (c : Config) (z t : ℕ) where
 
 -- bind: the new binding stands, and all else stays
 module _ (c : Config) (p x y : ℕ) where
-  pub bind_inst : (z : ℕ) → (result (Bind p x y) c).inst z ≡ c.inst z
-  unfolding result
+  pub bind_inst : (z : ℕ) → (result_of (Bind p x y) c).inst z ≡ c.inst z
+  unfolding result_of
   bind_inst z = refl
 
-  pub bind_bound : (p' x' y' : ℕ) → (result (Bind p x y) c).bound p' x' y' ≡ (c.bound p' x' y' || same p x y p' x' y')
-  unfolding result
+  pub bind_bound : (p' x' y' : ℕ) → (result_of (Bind p x y) c).bound p' x' y' ≡ (c.bound p' x' y' || same p x y p' x' y')
+  unfolding result_of
   bind_bound p' x' y' = refl
 
-  pub bind_at : (result (Bind p x y) c).bound p x y ≡ true
+  pub bind_at : (result_of (Bind p x y) c).bound p x y ≡ true
   bind_at = bind_bound p x y ∙ or_right (c.bound p x y) _ (same_self p x y)
 
   pub bind_off : (p' x' y' : ℕ) → (Same p x y p' x' y' → ⊥) →
-      (result (Bind p x y) c).bound p' x' y' ≡ c.bound p' x' y'
+      (result_of (Bind p x y) c).bound p' x' y' ≡ c.bound p' x' y'
   bind_off p' x' y' ne = bind_bound p' x' y' ∙ rw (same_false p x y p' x' y' ne) (or-false (c.bound p' x' y'))
 
   -- what was bound stays bound
-  pub bind_keeps : (p' x' y' : ℕ) → c.bound p' x' y' ≡ true → (result (Bind p x y) c).bound p' x' y' ≡ true
+  pub bind_keeps : (p' x' y' : ℕ) → c.bound p' x' y' ≡ true → (result_of (Bind p x y) c).bound p' x' y' ≡ true
   bind_keeps p' x' y' b = bind_bound p' x' y' ∙ or_left (c.bound p' x' y') _ b
 
   -- what is bound was bound or is the new binding
-  pub bind_cases : (p' x' y' : ℕ) → (result (Bind p x y) c).bound p' x' y' ≡ true →
+  pub bind_cases : (p' x' y' : ℕ) → (result_of (Bind p x y) c).bound p' x' y' ≡ true →
       (c.bound p' x' y' ≡ true) ⊎ Same p x y p' x' y'
   bind_cases p' x' y' b =
       elim (or_cases (c.bound p' x' y') _ (sym (bind_bound p' x' y') ∙ b)) [
@@ -92,23 +92,23 @@ module _ (c : Config) (p x y : ℕ) where
 
 -- change: the instance is in the new state of its type, and all else stays
 module _ (c : Config) (z q : ℕ) where
-  pub change_at : (result (Change z q) c).inst z ≡ moved (c.inst z) q
-  unfolding result
+  pub change_at : (result_of (Change z q) c).inst z ≡ moved (c.inst z) q
+  unfolding result_of
   change_at = put_at c.inst z _
 
-  pub change_to : (h : Pair) → c.inst z ≡ Some h → (result (Change z q) c).inst z ≡ Some (pair h.kind q)
+  pub change_to : (h : Pair) → c.inst z ≡ Some h → (result_of (Change z q) c).inst z ≡ Some (pair h.kind q)
   change_to h e = change_at ∙ ap (λ o. moved o q) e
 
-  pub change_off : (y : ℕ) → y ≢ z → (result (Change z q) c).inst y ≡ c.inst y
-  unfolding result
+  pub change_off : (y : ℕ) → y ≢ z → (result_of (Change z q) c).inst y ≡ c.inst y
+  unfolding result_of
   change_off y ne = put_off c.inst z _ y ne
 
-  pub change_bound : (p x y : ℕ) → (result (Change z q) c).bound p x y ≡ c.bound p x y
-  unfolding result
+  pub change_bound : (p x y : ℕ) → (result_of (Change z q) c).bound p x y ≡ c.bound p x y
+  unfolding result_of
   change_bound p x y = refl
 
   -- a test of the type alone is as before
-  pub change_kind : (f : ℕ → Bool) (x : ℕ) → passes ((result (Change z q) c).inst x) (λ h. f h.kind) ≡ passes (c.inst x) (λ h. f h.kind)
+  pub change_kind : (f : ℕ → Bool) (x : ℕ) → passes ((result_of (Change z q) c).inst x) (λ h. f h.kind) ≡ passes (c.inst x) (λ h. f h.kind)
   change_kind f x =
       elim (cases_eq x z) [
         | inl e ↦ rw (e, change_at) (of_moved (c.inst z))
@@ -121,43 +121,43 @@ module _ (c : Config) (z q : ℕ) where
 
 -- unbind: the binding stands no more, and all else stays
 module _ (c : Config) (p x y : ℕ) where
-  pub unbind_inst : (z : ℕ) → (result (Unbind p x y) c).inst z ≡ c.inst z
-  unfolding result
+  pub unbind_inst : (z : ℕ) → (result_of (Unbind p x y) c).inst z ≡ c.inst z
+  unfolding result_of
   unbind_inst z = refl
 
-  pub unbind_bound : (p' x' y' : ℕ) → (result (Unbind p x y) c).bound p' x' y' ≡ (c.bound p' x' y' && not (same p x y p' x' y'))
-  unfolding result
+  pub unbind_bound : (p' x' y' : ℕ) → (result_of (Unbind p x y) c).bound p' x' y' ≡ (c.bound p' x' y' && not (same p x y p' x' y'))
+  unfolding result_of
   unbind_bound p' x' y' = refl
 
-  pub unbind_at : (result (Unbind p x y) c).bound p x y ≡ false
+  pub unbind_at : (result_of (Unbind p x y) c).bound p x y ≡ false
   unbind_at = unbind_bound p x y ∙ and_right (c.bound p x y) _ (not_from_true _ (same_self p x y))
 
   pub unbind_off : (p' x' y' : ℕ) → (Same p x y p' x' y' → ⊥) →
-      (result (Unbind p x y) c).bound p' x' y' ≡ c.bound p' x' y'
+      (result_of (Unbind p x y) c).bound p' x' y' ≡ c.bound p' x' y'
   unbind_off p' x' y' ne = unbind_bound p' x' y' ∙ rw (same_false p x y p' x' y' ne) (and-true (c.bound p' x' y'))
 
   -- what is bound was bound
-  pub unbind_was : (p' x' y' : ℕ) → (result (Unbind p x y) c).bound p' x' y' ≡ true → c.bound p' x' y' ≡ true
+  pub unbind_was : (p' x' y' : ℕ) → (result_of (Unbind p x y) c).bound p' x' y' ≡ true → c.bound p' x' y' ≡ true
   unbind_was p' x' y' b = (and_parts (c.bound p' x' y') _ (sym (unbind_bound p' x' y') ∙ b)).0
 
 -- delete: the instance stands no more, nor do the bindings of which it is the requirer, and all else stays
 module _ (c : Config) (z : ℕ) where
-  pub delete_at : (result (Delete z) c).inst z ≡ None
-  unfolding result
+  pub delete_at : (result_of (Delete z) c).inst z ≡ None
+  unfolding result_of
   delete_at = put_at c.inst z None
 
-  pub delete_off : (y : ℕ) → y ≢ z → (result (Delete z) c).inst y ≡ c.inst y
-  unfolding result
+  pub delete_off : (y : ℕ) → y ≢ z → (result_of (Delete z) c).inst y ≡ c.inst y
+  unfolding result_of
   delete_off y ne = put_off c.inst z None y ne
 
-  pub delete_bound : (p x y : ℕ) → (result (Delete z) c).bound p x y ≡ (c.bound p x y && not (eqb y z))
-  unfolding result
+  pub delete_bound : (p x y : ℕ) → (result_of (Delete z) c).bound p x y ≡ (c.bound p x y && not (eqb y z))
+  unfolding result_of
   delete_bound p x y = refl
 
-  pub delete_bound_at : (p x : ℕ) → (result (Delete z) c).bound p x z ≡ false
+  pub delete_bound_at : (p x : ℕ) → (result_of (Delete z) c).bound p x z ≡ false
   delete_bound_at p x = delete_bound p x z ∙ and_right (c.bound p x z) _ (not_from_true _ (eq-eqb z z refl))
 
-  pub delete_bound_off : (p x y : ℕ) → y ≢ z → (result (Delete z) c).bound p x y ≡ c.bound p x y
+  pub delete_bound_off : (p x y : ℕ) → y ≢ z → (result_of (Delete z) c).bound p x y ≡ c.bound p x y
   delete_bound_off p x y ne = delete_bound p x y ∙ rw (ne_eqb y z ne) (and-true (c.bound p x y))
 
   -- every provider is another instance, where this one may be deleted
@@ -165,7 +165,7 @@ module _ (c : Config) (z : ℕ) where
   delete_apart l p x y b e = both_ways (c.bound p z y) (l.unused p y) (ap (λ n. c.bound p n y) (sym e) ∙ b)
 
   -- what is bound was bound, and to another requirer
-  pub delete_was : (p x y : ℕ) → (result (Delete z) c).bound p x y ≡ true → (c.bound p x y ≡ true) × (y ≢ z)
+  pub delete_was : (p x y : ℕ) → (result_of (Delete z) c).bound p x y ≡ true → (c.bound p x y ≡ true) × (y ≢ z)
   delete_was p x y b =
       let r = and_parts (c.bound p x y) _ (sym (delete_bound p x y) ∙ b) in
       (r.0, λ e. both_ways (eqb y z) (not-true (eqb y z) r.1) (eq-eqb y z e))

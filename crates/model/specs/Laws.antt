@@ -5,7 +5,7 @@ use Rattle.model.specs.declared.order.Order.TheVariants.{Create, Bind, Change, U
 use Rattle.model.specs.Universe.{Universe, Valid}
 use Rattle.model.specs.Config.{Config, WellFormed, empty, moved, provided}
 use Rattle.model.specs.Gaps.{Gap, GapFree}
-use Rattle.model.specs.Orders.{Legal, result}
+use Rattle.model.specs.Orders.{Legal, result_of}
 use Rattle.model.specs.Runs.{after, RunsFrom}
 use Rattle.model.specs.Bounded.{Below, any_gap}
 use Rattle.model.specs.Counts.{instances, bindings}
@@ -16,7 +16,7 @@ EmptyLaw = (u : Universe) → WellFormed u empty × GapFree u empty
 
 -- a legal order keeps a configuration well formed
 abbrev pub FormedLaw : Type 0
-FormedLaw = (u : Universe) (c : Config) (o : Order) → Valid u → WellFormed u c → Legal u c o → WellFormed u (result o c)
+FormedLaw = (u : Universe) (c : Config) (o : Order) → Valid u → WellFormed u c → Legal u c o → WellFormed u (result_of o c)
 
 -- where an order can open a gap: a change at the instance itself, and at those bound to it on a port
 -- that it stops providing; an unbind at its requirer and port; the others nowhere
@@ -32,7 +32,7 @@ Opens u c (Delete z') z p = ⊥
 abbrev pub OpeningLaw : Type 0
 OpeningLaw =
     (u : Universe) (c : Config) (o : Order) → Valid u → GapFree u c → Legal u c o →
-    (z p : ℕ) → Gap u (result o c) z p → Opens u c o z p
+    (z p : ℕ) → Gap u (result_of o c) z p → Opens u c o z p
 
 -- where nothing stands from n on, the search below n finds a gap exactly if there is one
 abbrev pub SearchLaw : Type 0
@@ -58,15 +58,15 @@ PrefixLaw =
 -- bind one binding more, an unbind one binding less, a delete one instance less and no binding more
 abbrev pub Moves : ℕ → ℕ → Config → Order → Type 0
 Moves m n c (Create z t) =
-    z < n → (instances n (result (Create z t) c) ≡ instances n c + 1) × (bindings m n (result (Create z t) c) ≡ bindings m n c)
+    z < n → (instances n (result_of (Create z t) c) ≡ instances n c + 1) × (bindings m n (result_of (Create z t) c) ≡ bindings m n c)
 Moves m n c (Bind p x y) =
-    p < m → x < n → y < n → (instances n (result (Bind p x y) c) ≡ instances n c) × (bindings m n (result (Bind p x y) c) ≡ bindings m n c + 1)
+    p < m → x < n → y < n → (instances n (result_of (Bind p x y) c) ≡ instances n c) × (bindings m n (result_of (Bind p x y) c) ≡ bindings m n c + 1)
 Moves m n c (Change z q) =
-    (instances n (result (Change z q) c) ≡ instances n c) × (bindings m n (result (Change z q) c) ≡ bindings m n c)
+    (instances n (result_of (Change z q) c) ≡ instances n c) × (bindings m n (result_of (Change z q) c) ≡ bindings m n c)
 Moves m n c (Unbind p x y) =
-    p < m → x < n → y < n → (instances n (result (Unbind p x y) c) ≡ instances n c) × (bindings m n c ≡ bindings m n (result (Unbind p x y) c) + 1)
+    p < m → x < n → y < n → (instances n (result_of (Unbind p x y) c) ≡ instances n c) × (bindings m n c ≡ bindings m n (result_of (Unbind p x y) c) + 1)
 Moves m n c (Delete z) =
-    z < n → (instances n c ≡ instances n (result (Delete z) c) + 1) × (bindings m n (result (Delete z) c) ≤ bindings m n c)
+    z < n → (instances n c ≡ instances n (result_of (Delete z) c) + 1) × (bindings m n (result_of (Delete z) c) ≤ bindings m n c)
 
 -- legal orders move the counts so
 abbrev pub CountLaw : Type 0

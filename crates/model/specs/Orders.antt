@@ -35,9 +35,9 @@ abbrev pub same : ℕ → ℕ → ℕ → ℕ → ℕ → ℕ → Bool
 same p x y p' x' y' = p == p' && x == x' && y == y'
 
 -- what the order makes of the configuration
-unfoldable pub result : Order → Config → Config
-result (Create z t) c = record { inst = put c.inst z (Some (pair t 0)); bound = c.bound }
-result (Bind p x y) c = record { inst = c.inst; bound = λ p' x' y'. c.bound p' x' y' || same p x y p' x' y' }
-result (Change z q) c = record { inst = put c.inst z (moved (c.inst z) q); bound = c.bound }
-result (Unbind p x y) c = record { inst = c.inst; bound = λ p' x' y'. c.bound p' x' y' && not (same p x y p' x' y') }
-result (Delete z) c = record { inst = put c.inst z None; bound = λ p' x' y'. c.bound p' x' y' && not (y' == z) }
+unfoldable pub result_of : Order → Config → Config
+result_of (Create z t) c = record { inst = put c.inst z (Some (pair t 0)); bound = c.bound }
+result_of (Bind p x y) c = record { inst = c.inst; bound = λ p' x' y'. c.bound p' x' y' || same p x y p' x' y' }
+result_of (Change z q) c = record { inst = put c.inst z (moved (c.inst z) q); bound = c.bound }
+result_of (Unbind p x y) c = record { inst = c.inst; bound = λ p' x' y'. c.bound p' x' y' && not (same p x y p' x' y') }
+result_of (Delete z) c = record { inst = put c.inst z None; bound = λ p' x' y'. c.bound p' x' y' && not (y' == z) }

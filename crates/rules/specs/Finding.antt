@@ -6,7 +6,7 @@ use Rattle.model.specs.Search.{find_first}
 use Rattle.model.specs.Universe.{Universe}
 use Rattle.model.specs.Config.{Config, moved}
 use Rattle.model.specs.Gaps.{Gap, GapFree}
-use Rattle.model.specs.Orders.{result, same}
+use Rattle.model.specs.Orders.{result_of, same}
 use Rattle.model.specs.Bounded.{gap_at}
 use Rattle.rules.specs.declared.gaps.FoundGap.{FoundGap}
 use Rattle.rules.specs.declared.gaps.Prospect.{Prospect}
@@ -15,8 +15,8 @@ use Rattle.rules.specs.declared.gaps.Prospect.TheVariants.{Present, Changed, Unb
 -- what would stand
 abbrev pub foreseen : Prospect → Config → Config
 foreseen Present c = c
-foreseen (Changed z q) c = result (Change z q) c
-foreseen (Unbound p x y) c = result (Unbind p x y) c
+foreseen (Changed z q) c = result_of (Change z q) c
+foreseen (Unbound p x y) c = result_of (Unbind p x y) c
 
 -- what would stand under the number y
 abbrev pub pair_foreseen : Prospect → Config → ℕ → Option Pair

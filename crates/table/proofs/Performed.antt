@@ -4,7 +4,7 @@ use mathlib.Core.Path.{fun_ext}
 use Rattle.model.specs.declared.order.Order.{Order}
 use Rattle.model.specs.declared.order.Order.TheVariants.{Create, Bind, Change, Unbind, Delete}
 use Rattle.model.specs.Config.{Config, empty, moved, pair, stands}
-use Rattle.model.specs.Orders.{put, result}
+use Rattle.model.specs.Orders.{put, result_of}
 use Rattle.model.specs.Counts.{instances, bindings}
 use Rattle.model.proofs.Results.{bind_inst, unbind_inst}
 use Rattle.model.proofs.Searches.{any_none}
@@ -32,9 +32,9 @@ module _ (t : Records) (fit : Fit t) where
   count_most = let h = instances_most 256 (config_of t) in omega (arith, fit.counted)
 
   -- the work is done where the arrays stay full, the rows rise and the instances are counted
-  finish : (o : Order) (a : Records) → config_of a ≡ result o (config_of t) →
+  finish : (o : Order) (a : Records) → config_of a ≡ result_of o (config_of t) →
       length a.slots ≡ length t.slots → length a.rows ≡ length t.rows →
-      a.len ≤ 2048 → Ordered a.rows a.len → a.count ≡ instances 256 (result o (config_of t)) → Done o t a
+      a.len ≤ 2048 → Ordered a.rows a.len → a.count ≡ instances 256 (result_of o (config_of t)) → Done o t a
   finish o a config slots rows most ordered counts =
       record {
         fit = record {
@@ -55,8 +55,8 @@ module _ (t : Records) (fit : Fit t) where
       abbrev after_create : Records
       after_create = record { slots = set t.slots z (record { pair = Some (pair k 0) }); rows = t.rows; len = t.len; count = t.count + 1 }
 
-      create_config : config_of after_create ≡ result (Create z k) (config_of t)
-      unfolding result
+      create_config : config_of after_create ≡ result_of (Create z k) (config_of t)
+      unfolding result_of
       create_config = alike _ _ (slot_written _) (λ p x y. refl)
 
       pub created : Done (Create z k) t after_create
@@ -71,8 +71,8 @@ module _ (t : Records) (fit : Fit t) where
       pair_moved : s.pair ≡ moved (standing t.slots z) q
       pair_moved = is ∙ ap (λ o. moved o q) (sym (standing_within t.slots z low))
 
-      change_config : config_of after_change ≡ result (Change z q) (config_of t)
-      unfolding result
+      change_config : config_of after_change ≡ result_of (Change z q) (config_of t)
+      unfolding result_of
       change_config = alike _ _ (λ y. slot_written s y ∙ ap (λ o. put (standing t.slots) z o y) pair_moved) (λ p x y. refl)
 
       pub changed : Done (Change z q) t after_change
@@ -88,8 +88,8 @@ module _ (t : Records) (fit : Fit t) where
         abbrev after_delete : Records
         after_delete = record { slots = set t.slots z vacant; rows = ys; len = m; count = t.count - 1 }
 
-        delete_config : config_of after_delete ≡ result (Delete z) (config_of t)
-        unfolding result
+        delete_config : config_of after_delete ≡ result_of (Delete z) (config_of t)
+        unfolding result_of
         delete_config = alike _ _ (slot_written vacant) (held_kept t.rows ys t.len m z kept)
 
         pub deleted : Done (Delete z) t after_delete
@@ -115,8 +115,8 @@ module _ (t : Records) (fit : Fit t) where
       place : Place t.rows t.len (rank b) r
       place = subst (λ n. Place t.rows t.len n r) is at
 
-      bind_config : config_of after_bind ≡ result (Bind p x y) (config_of t)
-      unfolding result
+      bind_config : config_of after_bind ≡ result_of (Bind p x y) (config_of t)
+      unfolding result_of
       bind_config = alike _ _ (λ z. refl) (held_more t.rows ys t.len fit.ordered b r place opened (omega (arith, fit.room)))
 
       pub bound : Done (Bind p x y) t after_bind
@@ -124,7 +124,7 @@ module _ (t : Records) (fit : Fit t) where
           finish (Bind p x y) after_bind bind_config refl (length-set _ _ _ ∙ size) (omega arith)
           (ordered_more t.rows ys t.len fit.ordered b r place opened (omega (arith, fit.room)) s
           (λ a. both_ways _ out ((held_tells t.rows t.len p x y).1 a)))
-          (fit.counted ∙ sym (instances_same 256 (config_of t) (result (Bind p x y) (config_of t)) (λ z. ap stands (bind_inst (config_of t) p x y z))))
+          (fit.counted ∙ sym (instances_same 256 (config_of t) (result_of (Bind p x y) (config_of t)) (λ z. ap stands (bind_inst (config_of t) p x y z))))
 
     module _ (was : (config_of t).bound p x y ≡ true) where
       pub row_at : (r < t.len) × (row t.rows r ≡ b)
@@ -139,15 +139,15 @@ module _ (t : Records) (fit : Fit t) where
             held_less t.rows ys t.len fit.ordered r closed p' x' y' ∙
             ap (λ d. held t.rows t.len p' x' y' && not (joins d p' x' y')) row_at.1
 
-        unbind_config : config_of after_unbind ≡ result (Unbind p x y) (config_of t)
-        unfolding result
+        unbind_config : config_of after_unbind ≡ result_of (Unbind p x y) (config_of t)
+        unfolding result_of
         unbind_config = alike _ _ (λ z. refl) row_out
 
         pub unbound : Done (Unbind p x y) t after_unbind
         unbound =
             finish (Unbind p x y) after_unbind unbind_config refl size (omega (arith, fit.most))
             (ordered_less t.rows ys t.len fit.ordered r closed)
-            (fit.counted ∙ sym (instances_same 256 (config_of t) (result (Unbind p x y) (config_of t)) (λ z. ap stands (unbind_inst (config_of t) p x y z))))
+            (fit.counted ∙ sym (instances_same 256 (config_of t) (result_of (Unbind p x y) (config_of t)) (λ z. ap stands (unbind_inst (config_of t) p x y z))))
 
 -- nothing stands in new records
 abbrev new_records : List Binding → Records

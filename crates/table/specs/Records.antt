@@ -4,7 +4,7 @@ use Rattle.model.specs.declared.pair.Pair.{Pair}
 use Rattle.model.specs.declared.order.Order.{Order}
 use Rattle.model.specs.declared.order.Order.TheVariants.{Create, Bind, Change, Unbind, Delete}
 use Rattle.model.specs.Config.{Config, stands}
-use Rattle.model.specs.Orders.{result}
+use Rattle.model.specs.Orders.{result_of}
 use Rattle.model.specs.Counts.{instances, bindings}
 use Rattle.table.specs.declared.records.Slot.{Slot}
 use Rattle.table.specs.declared.records.Records.{Records}
@@ -33,7 +33,7 @@ pub record Fit (t : Records) : Type 0 where
 -- the work of an order is done
 pub record Done (o : Order) (b a : Records) : Type 0 where
   pub fit : Fit a
-  pub config : config_of a ≡ result o (config_of b)
+  pub config : config_of a ≡ result_of o (config_of b)
 
 -- what the work of an order asks: numbers in range, room, and what it makes or ends not there or there
 abbrev pub Able : Config → Order → Type 0

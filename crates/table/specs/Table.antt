@@ -5,7 +5,7 @@ use Rattle.std.proofs.lemmas.Bool.{le-ltb}
 use Rattle.model.specs.declared.order.Order.{Order}
 use Rattle.model.specs.Universe.{Valid}
 use Rattle.model.specs.Counts.{instances}
-use Rattle.model.specs.Orders.{result}
+use Rattle.model.specs.Orders.{result_of}
 use Rattle.model.proofs.Searches.{any_some}
 use Rattle.model.proofs.Results.{same_true}
 use Rattle.universe.specs.declared.tables.Tables.{Tables}
@@ -52,7 +52,7 @@ told (Some e) = Err e
 -- a done order leads to its result, a refused one leaves what stood
 abbrev pub applied : Order → Option Reason → Held → Held
 applied o None h = record {
-  situation = record { universe = h.situation.universe; config = result o h.situation.config };
+  situation = record { universe = h.situation.universe; config = result_of o h.situation.config };
   limits = h.limits;
 }
 applied o (Some e) h = h

@@ -11,7 +11,7 @@ returns-in-Err c =
 pub loop-place-preserved : goal.loop-place-preserved
 loop-place-preserved c =
     let pushed : vec_items c.extend_from_slice.new.self ≡ vec_items c.loop-place.bytes ++ line_bytes_of c.in-Ok.line
-    = c.in_ok-extend_from_slice.ensures.items ∙ ap (λ t. vec_items c.loop-place.bytes ++ t) c.line_bytes.ensures in
+    = c.in_ok-extend_from_slice-in-Ok.ensures.items ∙ ap (λ t. vec_items c.loop-place.bytes ++ t) c.line_bytes.ensures in
     ap (λ t. after t (packed (c.loop-place.place + 1) (drop (c.loop-place.place + 1) c.args.orders.now))) pushed
     ∙ packed_more (vec_items c.loop-place.bytes) c.args.orders.now c.loop-place.place c.in-Ok.line _ (omega arith) c.in-Ok.ensures
     ∙ c.loop-place.invariant

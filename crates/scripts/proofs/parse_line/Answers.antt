@@ -10,11 +10,11 @@ returns-then-passed_over c =
       good = rw tells;
     }
 
-pub returns-in_ok-push : goal.returns-in_ok-push
-returns-in_ok-push c =
+pub returns-in_ok-push-in-Some : goal.returns-in_ok-push-in-Some
+returns-in_ok-push-in-Some c =
     let tells = line_order c.args.line.now c.in-Some.order (sym c.passed_over.ensures ∙ c.if-passed_over.false) c.in-Some.ensures in
     record {
-      items = rw tells c.in_ok-push.ensures.items;
+      items = rw tells c.in_ok-push-in-Some.ensures.items;
       good = rw tells;
     }
 

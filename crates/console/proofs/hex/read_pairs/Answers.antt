@@ -11,7 +11,7 @@ returns-in-None c = hex_none (length c.args.word.now / 2) c.args.word.now (vec_i
 pub loop-i-preserved : goal.loop-i-preserved
 loop-i-preserved c =
     let more = hex_more (length c.args.word.now / 2) c.args.word.now (vec_items c.loop-i.bytes) c.loop-i.i c.in-Some.byte c.loop-i.invariant c.loop-i-test.true (sym c.in-Some.ensures) in
-    rw c.in_ok-push.ensures.items more
+    rw c.in_ok-push-in-Some.ensures.items more
 
 pub returns : goal.returns
 returns c = hex_all (length c.args.word.now / 2) c.args.word.now (vec_items c.loop-i.bytes) c.loop-i.i c.loop-i.invariant c.loop-i-test.false
