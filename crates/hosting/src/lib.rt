@@ -64,7 +64,7 @@ fn answered_line<B: Host>(
     order: Order,
     answer: Result<(), Refusal>,
 ) -> Result<String, AllocError>
-    ensures { IfOk result (λ s. string_bytes s ≡ answered_line_of order answer (service host.now).load) }
+    ensures { IfOk result (λ s. string_bytes s ≡ answered_line_of order answer (B.service host.now).load) }
 {
     let waits = host.waits();
     let creations = host.creation_allowance();
@@ -74,7 +74,7 @@ fn answered_line<B: Host>(
 
 // Gives the host the order, and makes the line that tells of it.
 pub fn order_report<B: Host>(heap: Global, host: &mut B, order: Order) -> Result<String, AllocError>
-    ensures { IfOk result (λ s. Told order (meaning (B.Survey.situation host.old) (service host.old)) (meaning (B.Survey.situation host.new) (service host.new)) (string_bytes s)) }
+    ensures { IfOk result (λ s. Told order (meaning (B.Survey.situation host.old) (B.service host.old)) (meaning (B.Survey.situation host.new) (B.service host.new)) (string_bytes s)) }
 {
     let answer = give(host, order);
     answered_line(heap, host, order, answer)
@@ -112,7 +112,7 @@ pub fn end_line(
 
 // The last line for what a survey tells.
 pub fn end_report<S: Survey>(heap: Global, survey: &S) -> Result<String, AllocError>
-    ensures { IfOk result (λ s. string_bytes s ≡ survey_line (situation survey.now)) }
+    ensures { IfOk result (λ s. string_bytes s ≡ survey_line (S.situation survey.now)) }
 {
     let gap_free = find_gap(survey).is_none();
     end_line(heap, survey.instances(), survey.bindings(), gap_free)
@@ -125,7 +125,7 @@ fn tell_orders<B: Host>(
     host: &mut B,
     orders: &[Order],
 ) -> Result<(), AllocError>
-    ensures { OnOk result (ToldMore orders.now (meaning (B.Survey.situation host.old) (service host.old)) (meaning (B.Survey.situation host.new) (service host.new)) (string_bytes text.old) (string_bytes text.new)) }
+    ensures { OnOk result (ToldMore orders.now (meaning (B.Survey.situation host.old) (B.service host.old)) (meaning (B.Survey.situation host.new) (B.service host.new)) (string_bytes text.old) (string_bytes text.new)) }
 {
     for order in orders {
         text.push_str(&order_report(heap, host, *order)?)?;
@@ -139,7 +139,7 @@ pub fn host_report<B: Host>(
     host: &mut B,
     orders: &[Order],
 ) -> Result<String, AllocError>
-    ensures { IfOk result (λ s. Reported orders.now (meaning (B.Survey.situation host.old) (service host.old)) (meaning (B.Survey.situation host.new) (service host.new)) (string_bytes s)) }
+    ensures { IfOk result (λ s. Reported orders.now (meaning (B.Survey.situation host.old) (B.service host.old)) (meaning (B.Survey.situation host.new) (B.service host.new)) (string_bytes s)) }
 {
     let mut text = String::new(heap);
     tell_orders(heap, &mut text, host, orders)?;

@@ -20,28 +20,28 @@ pub struct Verifying<B> {
 
 // Whether the change would leave a gap.
 fn change_leaves_gap<S: Survey>(survey: &S, instance: u32, state: u8) -> bool
-    ensures { result ≡ leaves_gap (Change instance state) (situation survey.now) }
+    ensures { result ≡ leaves_gap (Change instance state) (S.situation survey.now) }
 {
     find_gap_after_change(survey, instance, state).is_some()
 }
 
 // Whether the unbind would leave a gap.
 fn unbind_leaves_gap<S: Survey>(survey: &S, port: u32, provider: u32, requirer: u32) -> bool
-    ensures { result ≡ leaves_gap (Unbind port provider requirer) (situation survey.now) }
+    ensures { result ≡ leaves_gap (Unbind port provider requirer) (S.situation survey.now) }
 {
     find_gap_after_unbind(survey, port, provider, requirer).is_some()
 }
 
 // Whether the host below would neither put the order off nor find an offence in it.
 fn is_admitted<B: Host>(host: &B, offence: Option<Offence>) -> bool
-    ensures { result ≡ ((service host.now).load.waits == 0 && not (is_some offence)) }
+    ensures { result ≡ ((B.service host.now).load.waits == 0 && not (is_some offence)) }
 {
     host.waits() == 0 && offence.is_none()
 }
 
 // Whether the layer over the host stops the change.
 fn does_stop_change<B: Host>(host: &B, instance: u32, state: u32) -> bool
-    ensures { result ≡ stopped (Change instance state) (meaning (B.Survey.situation host.now) (service host.now)) }
+    ensures { result ≡ stopped (Change instance state) (meaning (B.Survey.situation host.now) (B.service host.now)) }
 {
     is_admitted(host, change_offence(host, instance, state))
         && change_leaves_gap(host, instance, state as u8)
@@ -49,7 +49,7 @@ fn does_stop_change<B: Host>(host: &B, instance: u32, state: u32) -> bool
 
 // Whether the layer over the host stops the unbind.
 fn does_stop_unbind<B: Host>(host: &B, port: u32, provider: u32, requirer: u32) -> bool
-    ensures { result ≡ stopped (Unbind port provider requirer) (meaning (B.Survey.situation host.now) (service host.now)) }
+    ensures { result ≡ stopped (Unbind port provider requirer) (meaning (B.Survey.situation host.now) (B.service host.now)) }
 {
     is_admitted(host, unbind_offence(host, port, provider, requirer))
         && unbind_leaves_gap(host, port, provider, requirer)
@@ -65,14 +65,14 @@ impl<B: Host> Verifying<B> {
 
     // The height of the layer: one more than below, held at 255.
     fn own_height(&self) -> u8
-        ensures { result ≡ above (service self.now.below).profile.height }
+        ensures { result ≡ above (B.service self.now.below).profile.height }
     {
         self.below.height().saturating_add(1)
     }
 
     // The layer's own refusal.
     fn gap_refusal(&self) -> Refusal
-        ensures { result ≡ record { reason = Gap; height = above (service self.now.below).profile.height } }
+        ensures { result ≡ record { reason = Gap; height = above (B.service self.now.below).profile.height } }
     {
         Refusal {
             reason: Reason::Gap,
@@ -81,21 +81,21 @@ impl<B: Host> Verifying<B> {
     }
 
     fn relay_create(&mut self, instance: u32, kind: u32) -> Result<(), Refusal>
-        ensures { Relayed (Create instance kind) self.old.below self.new.below (meaning (B.Survey.situation self.old.below) (service self.old.below)) (meaning (B.Survey.situation self.new.below) (service self.new.below)) result }
+        ensures { Relayed (Create instance kind) self.old.below self.new.below (meaning (B.Survey.situation self.old.below) (B.service self.old.below)) (meaning (B.Survey.situation self.new.below) (B.service self.new.below)) result }
     {
         self.below.create(instance, kind)?;
         Ok(())
     }
 
     fn relay_bind(&mut self, port: u32, provider: u32, requirer: u32) -> Result<(), Refusal>
-        ensures { Relayed (Bind port provider requirer) self.old.below self.new.below (meaning (B.Survey.situation self.old.below) (service self.old.below)) (meaning (B.Survey.situation self.new.below) (service self.new.below)) result }
+        ensures { Relayed (Bind port provider requirer) self.old.below self.new.below (meaning (B.Survey.situation self.old.below) (B.service self.old.below)) (meaning (B.Survey.situation self.new.below) (B.service self.new.below)) result }
     {
         self.below.bind(port, provider, requirer)?;
         Ok(())
     }
 
     fn relay_change(&mut self, instance: u32, state: u32) -> Result<(), Refusal>
-        ensures { Relayed (Change instance state) self.old.below self.new.below (meaning (B.Survey.situation self.old.below) (service self.old.below)) (meaning (B.Survey.situation self.new.below) (service self.new.below)) result }
+        ensures { Relayed (Change instance state) self.old.below self.new.below (meaning (B.Survey.situation self.old.below) (B.service self.old.below)) (meaning (B.Survey.situation self.new.below) (B.service self.new.below)) result }
     {
         if does_stop_change(&self.below, instance, state) {
             return Err(self.gap_refusal());
@@ -105,7 +105,7 @@ impl<B: Host> Verifying<B> {
     }
 
     fn relay_unbind(&mut self, port: u32, provider: u32, requirer: u32) -> Result<(), Refusal>
-        ensures { Relayed (Unbind port provider requirer) self.old.below self.new.below (meaning (B.Survey.situation self.old.below) (service self.old.below)) (meaning (B.Survey.situation self.new.below) (service self.new.below)) result }
+        ensures { Relayed (Unbind port provider requirer) self.old.below self.new.below (meaning (B.Survey.situation self.old.below) (B.service self.old.below)) (meaning (B.Survey.situation self.new.below) (B.service self.new.below)) result }
     {
         if does_stop_unbind(&self.below, port, provider, requirer) {
             return Err(self.gap_refusal());
@@ -115,7 +115,7 @@ impl<B: Host> Verifying<B> {
     }
 
     fn relay_delete(&mut self, instance: u32) -> Result<(), Refusal>
-        ensures { Relayed (Delete instance) self.old.below self.new.below (meaning (B.Survey.situation self.old.below) (service self.old.below)) (meaning (B.Survey.situation self.new.below) (service self.new.below)) result }
+        ensures { Relayed (Delete instance) self.old.below self.new.below (meaning (B.Survey.situation self.old.below) (B.service self.old.below)) (meaning (B.Survey.situation self.new.below) (B.service self.new.below)) result }
     {
         self.below.delete(instance)?;
         Ok(())

@@ -36,7 +36,7 @@ enum Prospect {
 
 // What stands, in another state.
 fn moved_to(pair: Option<Pair>, state: u8) -> Option<Pair>
-    ensuresNone { result ≡ moved pair state }
+    ensures { result ≡ moved pair state }
 {
     match pair {
         Some(pair) => Some(Pair {
@@ -49,7 +49,7 @@ fn moved_to(pair: Option<Pair>, state: u8) -> Option<Pair>
 
 // What would stand under the number.
 fn pair_in<S: Survey>(survey: &S, prospect: Prospect, instance: u32) -> Option<Pair>
-    ensuresNone { result ≡ pair_foreseen prospect (situation survey.now).config instance }
+    ensures { result ≡ pair_foreseen prospect (S.situation survey.now).config instance }
 {
     let pair = survey.at(instance);
     match prospect {
@@ -74,7 +74,7 @@ fn pair_in<S: Survey>(survey: &S, prospect: Prospect, instance: u32) -> Option<P
 
 // Whether two bindings are one.
 fn is_same(a: (u32, u32, u32), b: (u32, u32, u32)) -> bool
-    ensuresNone { result ≡ same a.0 a.1 a.2 b.0 b.1 b.2 }
+    ensures { result ≡ same a.0 a.1 a.2 b.0 b.1 b.2 }
 {
     a.0 == b.0 && a.1 == b.1 && a.2 == b.2
 }
@@ -87,7 +87,7 @@ fn is_bound_in<S: Survey>(
     provider: u32,
     requirer: u32,
 ) -> bool
-    ensuresNone { result ≡ bound_foreseen prospect (situation survey.now).config port provider requirer }
+    ensures { result ≡ bound_foreseen prospect (S.situation survey.now).config port provider requirer }
 {
     let bound = survey.is_bound(port, provider, requirer);
     match prospect {
@@ -106,7 +106,7 @@ fn is_bound_in<S: Survey>(
 
 // Whether the pair has the port in that role.
 fn pair_has_port<S: Survey>(survey: &S, role: Role, port: u32, pair: Option<Pair>) -> bool
-    ensuresNone { result ≡ now_has (situation survey.now).universe role port pair }
+    ensures { result ≡ now_has (S.situation survey.now).universe role port pair }
 {
     match pair {
         Some(pair) => has_port(
@@ -128,7 +128,7 @@ fn does_cover<S: Survey>(
     provider: u32,
     instance: u32,
 ) -> bool
-    ensuresNone { result ≡ (now_has (situation survey.now).universe Provider port (pair_foreseen prospect (situation survey.now).config provider) && bound_foreseen prospect (situation survey.now).config port provider instance) }
+    ensures { result ≡ (now_has (S.situation survey.now).universe Provider port (pair_foreseen prospect (S.situation survey.now).config provider) && bound_foreseen prospect (S.situation survey.now).config port provider instance) }
 {
     let pair = pair_in(survey, prospect, provider);
     pair_has_port(survey, Role::Provider, port, pair)
@@ -137,7 +137,7 @@ fn does_cover<S: Survey>(
 
 // Whether some provider would cover the port of the instance.
 fn is_covered<S: Survey>(survey: &S, prospect: Prospect, port: u32, instance: u32) -> bool
-    ensuresNone { result ≡ covered 256 (situation survey.now).universe (foreseen prospect (situation survey.now).config) instance port }
+    ensures { result ≡ covered 256 (S.situation survey.now).universe (foreseen prospect (S.situation survey.now).config) instance port }
 {
     for provider in 0..256 {
         if does_cover(survey, prospect, port, provider, instance) {
@@ -149,7 +149,7 @@ fn is_covered<S: Survey>(survey: &S, prospect: Prospect, port: u32, instance: u3
 
 // Whether the instance would have a gap at the port.
 fn has_gap<S: Survey>(survey: &S, prospect: Prospect, port: u32, instance: u32) -> bool
-    ensuresNone { result ≡ (now_has (situation survey.now).universe Requirer port (pair_foreseen prospect (situation survey.now).config instance) && not (covered 256 (situation survey.now).universe (foreseen prospect (situation survey.now).config) instance port)) }
+    ensures { result ≡ (now_has (S.situation survey.now).universe Requirer port (pair_foreseen prospect (S.situation survey.now).config instance) && not (covered 256 (S.situation survey.now).universe (foreseen prospect (S.situation survey.now).config) instance port)) }
 {
     let pair = pair_in(survey, prospect, instance);
     pair_has_port(survey, Role::Requirer, port, pair)
@@ -158,7 +158,7 @@ fn has_gap<S: Survey>(survey: &S, prospect: Prospect, port: u32, instance: u32) 
 
 // The first gap that the instance would have.
 fn first_gap_of<S: Survey>(survey: &S, prospect: Prospect, instance: u32) -> Option<FoundGap>
-    ensuresNone { result ≡ first_gap_at (situation survey.now).universe (foreseen prospect (situation survey.now).config) instance }
+    ensures { result ≡ first_gap_at (S.situation survey.now).universe (foreseen prospect (S.situation survey.now).config) instance }
 {
     if pair_in(survey, prospect, instance).is_none() {
         return None;
@@ -173,9 +173,9 @@ fn first_gap_of<S: Survey>(survey: &S, prospect: Prospect, instance: u32) -> Opt
 
 // The first gap that there would be.
 fn first_gap<S: Survey>(survey: &S, prospect: Prospect) -> Option<FoundGap>
-    ensures value { result ≡ first_gap_in (situation survey.now).universe (foreseen prospect (situation survey.now).config) }
-    ensures law { TellsGaps (situation survey.now).universe (foreseen prospect (situation survey.now).config) result }
-    ensures whole { is_some result ≡ any_gap 256 (situation survey.now).universe (foreseen prospect (situation survey.now).config) }
+    ensures value { result ≡ first_gap_in (S.situation survey.now).universe (foreseen prospect (S.situation survey.now).config) }
+    ensures law { TellsGaps (S.situation survey.now).universe (foreseen prospect (S.situation survey.now).config) result }
+    ensures whole { is_some result ≡ any_gap 256 (S.situation survey.now).universe (foreseen prospect (S.situation survey.now).config) }
 {
     for instance in 0..256 {
         let gap = first_gap_of(survey, prospect, instance);
@@ -188,18 +188,18 @@ fn first_gap<S: Survey>(survey: &S, prospect: Prospect) -> Option<FoundGap>
 
 // The first gap, by instance and then by port.
 pub fn find_gap<S: Survey>(survey: &S) -> Option<FoundGap>
-    ensures value { result ≡ first_gap_in (situation survey.now).universe (situation survey.now).config }
-    ensures law { TellsGaps (situation survey.now).universe (situation survey.now).config result }
-    ensures whole { is_some result ≡ any_gap 256 (situation survey.now).universe (situation survey.now).config }
+    ensures value { result ≡ first_gap_in (S.situation survey.now).universe (S.situation survey.now).config }
+    ensures law { TellsGaps (S.situation survey.now).universe (S.situation survey.now).config result }
+    ensures whole { is_some result ≡ any_gap 256 (S.situation survey.now).universe (S.situation survey.now).config }
 {
     first_gap(survey, Prospect::Present)
 }
 
 // The first gap that the change would leave.
 pub fn find_gap_after_change<S: Survey>(survey: &S, instance: u32, state: u8) -> Option<FoundGap>
-    ensures value { result ≡ first_gap_in (situation survey.now).universe (result_of (Change instance state) (situation survey.now).config) }
-    ensures law { TellsGaps (situation survey.now).universe (result_of (Change instance state) (situation survey.now).config) result }
-    ensures whole { is_some result ≡ any_gap 256 (situation survey.now).universe (result_of (Change instance state) (situation survey.now).config) }
+    ensures value { result ≡ first_gap_in (S.situation survey.now).universe (result_of (Change instance state) (S.situation survey.now).config) }
+    ensures law { TellsGaps (S.situation survey.now).universe (result_of (Change instance state) (S.situation survey.now).config) result }
+    ensures whole { is_some result ≡ any_gap 256 (S.situation survey.now).universe (result_of (Change instance state) (S.situation survey.now).config) }
 {
     first_gap(survey, Prospect::Changed { instance, state })
 }
@@ -211,9 +211,9 @@ pub fn find_gap_after_unbind<S: Survey>(
     provider: u32,
     requirer: u32,
 ) -> Option<FoundGap>
-    ensures value { result ≡ first_gap_in (situation survey.now).universe (result_of (Unbind port provider requirer) (situation survey.now).config) }
-    ensures law { TellsGaps (situation survey.now).universe (result_of (Unbind port provider requirer) (situation survey.now).config) result }
-    ensures whole { is_some result ≡ any_gap 256 (situation survey.now).universe (result_of (Unbind port provider requirer) (situation survey.now).config) }
+    ensures value { result ≡ first_gap_in (S.situation survey.now).universe (result_of (Unbind port provider requirer) (S.situation survey.now).config) }
+    ensures law { TellsGaps (S.situation survey.now).universe (result_of (Unbind port provider requirer) (S.situation survey.now).config) result }
+    ensures whole { is_some result ≡ any_gap 256 (S.situation survey.now).universe (result_of (Unbind port provider requirer) (S.situation survey.now).config) }
 {
     first_gap(
         survey,

@@ -9,21 +9,21 @@ use hosts::survey::Survey;
 
 // Whether an instance stands under the number.
 pub fn is_standing<S: Survey>(survey: &S, instance: u32) -> bool
-    ensures { result ≡ standing (situation survey.now) instance }
+    ensures { result ≡ standing (S.situation survey.now) instance }
 {
     survey.at(instance).is_some()
 }
 
 // How many types there are.
 fn types<S: Survey>(survey: &S) -> u8
-    ensures { result ≡ (situation survey.now).universe.types }
+    ensures { result ≡ (S.situation survey.now).universe.types }
 {
     survey.universe().types()
 }
 
 // Whether an end or the port of a binding is out of range.
 fn is_stray<S: Survey>(survey: &S, port: u32, provider: u32, requirer: u32) -> bool
-    ensures { result ≡ strays (situation survey.now) port provider requirer }
+    ensures { result ≡ strays (S.situation survey.now) port provider requirer }
 {
     let ports = ports(survey);
     provider > 255 || requirer > 255 || port >= ports
@@ -31,14 +31,14 @@ fn is_stray<S: Survey>(survey: &S, port: u32, provider: u32, requirer: u32) -> b
 
 // Whether an end of a binding does not stand.
 fn is_loose<S: Survey>(survey: &S, provider: u32, requirer: u32) -> bool
-    ensures { result ≡ loose (situation survey.now) provider requirer }
+    ensures { result ≡ loose (S.situation survey.now) provider requirer }
 {
     !(is_standing(survey, provider) && is_standing(survey, requirer))
 }
 
 // Whether the ends are one, or their types never have the port.
 fn is_unfit<S: Survey>(survey: &S, port: u32, provider: u32, requirer: u32) -> bool
-    ensures { result ≡ unfit (situation survey.now) port provider requirer }
+    ensures { result ≡ unfit (S.situation survey.now) port provider requirer }
 {
     provider == requirer
         || !ever_has_port(survey, Role::Provider, port, provider)
@@ -47,7 +47,7 @@ fn is_unfit<S: Survey>(survey: &S, port: u32, provider: u32, requirer: u32) -> b
 
 // Whether the state is a successor of that of the instance.
 fn does_follow<S: Survey>(survey: &S, instance: u32, state: u32) -> bool
-    ensures { result ≡ follows (situation survey.now) instance state }
+    ensures { result ≡ follows (S.situation survey.now) instance state }
 {
     match survey.at(instance) {
         Some(pair) => survey
@@ -59,7 +59,7 @@ fn does_follow<S: Survey>(survey: &S, instance: u32, state: u32) -> bool
 
 // The first offence of a create.
 pub fn create_offence<S: Survey>(survey: &S, instance: u32, kind: u32) -> Option<Offence>
-    ensures { result ≡ create_offence_of (situation survey.now) instance kind }
+    ensures { result ≡ create_offence_of (S.situation survey.now) instance kind }
 {
     let types = types(survey);
     if instance > 255 || kind >= types as u32 {
@@ -78,7 +78,7 @@ pub fn bind_offence<S: Survey>(
     provider: u32,
     requirer: u32,
 ) -> Option<Offence>
-    ensures { result ≡ bind_offence_of (situation survey.now) port provider requirer }
+    ensures { result ≡ bind_offence_of (S.situation survey.now) port provider requirer }
 {
     if is_stray(survey, port, provider, requirer) {
         return Some(Offence::OutOfRange);
@@ -97,7 +97,7 @@ pub fn bind_offence<S: Survey>(
 
 // The first offence of a change.
 pub fn change_offence<S: Survey>(survey: &S, instance: u32, state: u32) -> Option<Offence>
-    ensures { result ≡ change_offence_of (situation survey.now) instance state }
+    ensures { result ≡ change_offence_of (S.situation survey.now) instance state }
 {
     if instance > 255 || state > 7 {
         return Some(Offence::OutOfRange);
@@ -118,7 +118,7 @@ pub fn unbind_offence<S: Survey>(
     provider: u32,
     requirer: u32,
 ) -> Option<Offence>
-    ensures { result ≡ unbind_offence_of (situation survey.now) port provider requirer }
+    ensures { result ≡ unbind_offence_of (S.situation survey.now) port provider requirer }
 {
     if is_stray(survey, port, provider, requirer) {
         return Some(Offence::OutOfRange);

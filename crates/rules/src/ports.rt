@@ -38,7 +38,7 @@ fn is_ever_in(universe: &Universe, role: Role, kind: u32, port: u32) -> bool
 
 // Whether some state of the type of the instance has the port in that role; not where nothing stands.
 pub fn ever_has_port<S: Survey>(survey: &S, role: Role, port: u32, instance: u32) -> bool
-    ensures { result ≡ ever_has (situation survey.now).universe role port ((situation survey.now).config.inst instance) }
+    ensures { result ≡ ever_has (S.situation survey.now).universe role port ((S.situation survey.now).config.inst instance) }
 {
     match survey.at(instance) {
         Some(pair) => is_ever_in(survey.universe(), role, pair.kind as u32, port),
@@ -48,7 +48,7 @@ pub fn ever_has_port<S: Survey>(survey: &S, role: Role, port: u32, instance: u32
 
 // How many ports there are.
 pub fn ports<S: Survey>(survey: &S) -> u32
-    ensures { result ≡ (situation survey.now).universe.ports }
+    ensures { result ≡ (S.situation survey.now).universe.ports }
 {
     survey.universe().ports() as u32
 }

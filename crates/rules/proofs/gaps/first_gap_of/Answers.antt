@@ -10,7 +10,7 @@ unfolding first_gap_at
 returns-then-is_none g c =
     let s = g.S.Survey.situation c.args.survey.now in
     sym (none_of s.universe (foreseen c.args.prospect s.config) c.args.instance
-    (sym (pair_in_lem c.args.prospect s.config c.args.instance) ∙ sym c.pair_in_lem.ensures ∙ none_is _ c.if-is_none.ensures) _)
+    (sym (pair_in_lem c.args.prospect s.config c.args.instance) ∙ sym c.pair_in.ensures ∙ none_is _ c.if-is_none.ensures) _)
 
 pub loop-port-init : goal.loop-port-init
 loop-port-init g c = first_none _

@@ -15,9 +15,9 @@ loop-provider-preserved g c =
 pub returns-then-does_cover : goal.returns-then-does_cover
 unfolding covered
 returns-then-does_cover g c =
-    sym (any_found _ c.loop-provider.provider 256 c.loop-provider_test.true
+    sym (any_found _ c.loop-provider.provider 256 c.loop-provider-test.true
     (cover_in (g.S.Survey.situation c.args.survey.now) c.args.prospect c.args.port _ _ ∙ (sym c.does_cover.ensures ∙ c.if-does_cover.true)))
 
 pub returns : goal.returns
 unfolding covered
-returns g c = sym (any_end _ c.loop-provider.provider 256 c.loop-provider.invariant c.loop-provider.auto.provider-end c.loop-provider_test.false)
+returns g c = sym (any_end _ c.loop-provider.provider 256 c.loop-provider.invariant c.loop-provider.auto.provider-end c.loop-provider-test.false)
