@@ -113,7 +113,7 @@ impl Records {
     // An instance of the type, in its state 0.
     pub(crate) fn create(&mut self, instance: u32, kind: u8)
         requires fit { Fit self.old }
-        requires instance_bound { (instance < 256) × (stands ((config_of self.old).inst instance) ≡ false) }
+        requires free { (instance < 256) × (stands ((config_of self.old).inst instance) ≡ false) }
         ensures { Done (Create instance kind) self.old self.new }
     {
         self.slots[instance as usize] = Slot {
@@ -125,7 +125,7 @@ impl Records {
     // What stands under the number is in the state.
     pub(crate) fn change(&mut self, instance: u32, state: u8)
         requires fit { Fit self.old }
-        requires instance_bound { instance < 256 }
+        requires in_range { instance < 256 }
         ensures { Done (Change instance state) self.old self.new }
     {
         self.slots[instance as usize].move_to(state);
@@ -134,8 +134,8 @@ impl Records {
     // A binding more.
     pub(crate) fn bind(&mut self, binding: Binding)
         requires fit { Fit self.old }
-        requires port_bound { (binding.port < 32) × (bindings 32 256 (config_of self.old) < 2048) }
-        requires requirer_value { (config_of self.old).bound binding.port binding.provider binding.requirer ≡ false }
+        requires room { (binding.port < 32) × (bindings 32 256 (config_of self.old) < 2048) }
+        requires unbound { (config_of self.old).bound binding.port binding.provider binding.requirer ≡ false }
         ensures { Done (Bind binding.port binding.provider binding.requirer) self.old self.new }
     {
         let place = place_of(&self.rows, self.len, binding.rank());
@@ -147,8 +147,8 @@ impl Records {
     // A binding less.
     pub(crate) fn unbind(&mut self, binding: Binding)
         requires fit { Fit self.old }
-        requires port_bound { binding.port < 32 }
-        requires requirer_value { (config_of self.old).bound binding.port binding.provider binding.requirer ≡ true }
+        requires in_range { binding.port < 32 }
+        requires standing { (config_of self.old).bound binding.port binding.provider binding.requirer ≡ true }
         ensures { Done (Unbind binding.port binding.provider binding.requirer) self.old self.new }
     {
         let place = place_of(&self.rows, self.len, binding.rank());
@@ -159,7 +159,7 @@ impl Records {
     // An instance less, and with it the bindings of which it is the requirer.
     pub(crate) fn delete(&mut self, instance: u8)
         requires fit { Fit self.old }
-        requires instance_value { stands ((config_of self.old).inst instance) ≡ true }
+        requires standing { stands ((config_of self.old).inst instance) ≡ true }
         ensures { Done (Delete instance) self.old self.new }
     {
         self.slots[instance as usize] = Slot { pair: None };

@@ -21,12 +21,12 @@ loop-i-preserved c =
       | then-not-ends_at w ↦
           let ne = eqb-false _ _ (test ∙ w.if-not-ends_at.true) in
           rw (w.rows-is, w.left-is) (
-            keep_one xs ys n i m z c.requires.1 li kept rest room ne,
-            keep_rest xs ys n i m z c.requires.1 li kept rest room ne,
+            keep_one xs ys n i m z c.requires.ordered li kept rest room ne,
+            keep_rest xs ys n i m z c.requires.ordered li kept rest room ne,
           )
       | else-not-ends_at w ↦
           rw (w.rows-is, w.left-is) (
-            keep_not xs ys n i m z c.requires.1 li kept rest (eqb-true _ _ (test ∙ w.if-not-ends_at.false)),
+            keep_not xs ys n i m z c.requires.ordered li kept rest (eqb-true _ _ (test ∙ w.if-not-ends_at.false)),
             λ k l. rest k (omega arith),
           )
     ]

@@ -5,13 +5,13 @@ use Rattle.table.proofs.records.Records.unbind.Goals as goal
 pub close_at-requires : goal.close_at-requires
 close_at-requires c =
     let at =
-    row_at c.args.self.now c.requires.0 c.args.binding (record { provider = omega arith; requirer = omega arith; port = c.requires.1 })
-    c.rank.result c.place_of-place.result c.rank.ensures c.place_of-place.ensures c.requires.2 in
-    (at.0, omega (arith, c.requires.0.most, c.requires.0.room))
+    row_at c.args.self.now c.requires.fit c.args.binding (record { provider = omega arith; requirer = omega arith; port = c.requires.in_range })
+    c.rank.result c.place_of-place.result c.rank.ensures c.place_of-place.ensures c.requires.standing in
+    (at.0, omega (arith, c.requires.fit.most, c.requires.fit.room))
 
 pub returns : goal.returns
 returns c =
     let size : length c.close_at.new.rows ≡ length c.args.self.now.rows = omega arith in
-    unbound c.args.self.now c.requires.0 c.args.binding (record { provider = omega arith; requirer = omega arith; port = c.requires.1 })
-    c.rank.result c.place_of-place.result c.rank.ensures c.place_of-place.ensures c.requires.2
+    unbound c.args.self.now c.requires.fit c.args.binding (record { provider = omega arith; requirer = omega arith; port = c.requires.in_range })
+    c.rank.result c.place_of-place.result c.rank.ensures c.place_of-place.ensures c.requires.standing
     c.close_at.new.rows size c.close_at.ensures

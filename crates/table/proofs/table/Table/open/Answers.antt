@@ -6,4 +6,10 @@ pub invariant_of-result : goal.invariant_of-result
 invariant_of-result c =
     let t = c.empty.result in
     let f = c.empty.ensures.fit in
-    (sizes t f, (rising t f, (none_ranged c.args.universe.tables t c.empty.ensures.none, (counted t f, (omega (arith, c.min-2.ensures), tt)))))
+    record {
+      sizes = sizes t f;
+      rising = rising t f;
+      ranged = none_ranged c.args.universe.tables t c.empty.ensures.none;
+      counted = counted t f;
+      room = omega (arith, c.min-2.ensures);
+    }
