@@ -19,13 +19,19 @@ BY_HAND = {
     "headerOf": "header_of_word", "hostOptions": "host_options_of", "isDigit": "digit_test", "isFull": "full_test",
     "isOption": "option_test", "isProvider": "provider_test", "kind-form": "kind_form_lem", "kind-of": "kind_of_lem",
     "kind-read": "kind_read_lem", "state-read": "state_read_lem", "layersOf": "layers_of_text",
-    "leastTables": "least_tables_of", "letterOf": "letter_of_order", "line-of": "line_of_lem", "lineBytes": "line_bytes_of",
+    "leastTables": "tables_of_least", "letterOf": "letter_of_line", "line-of": "line_of_lem", "lineBytes": "line_bytes_of",
     "listedMore": "listed_with", "loadText": "load_text_of", "order-at": "order_at_lem", "orderLine": "order_line_of",
     "orderRow": "order_row_of", "packText": "pack_text_of", "pair-in": "pair_in_lem", "pairIn": "pair_foreseen",
     "boundIn": "bound_foreseen", "plainPlace": "plain_place_of", "refusalText": "refusal_text_of",
     "refusedLine": "refused_line_of", "scriptLines": "script_lines_of", "setText": "set_text_of",
     "standingLine": "standing_line_of", "stateLine": "state_line_of", "typeLine": "type_line_of",
     "typeLines": "type_lines_of", "universeText": "universe_text_of", "withValue": "with_value_of", "yesNo": "yes_no_of",
+}
+# Names of definitions that a word of the library has too, with another meaning, by crate.
+OF_THE_LIBRARY = {
+    "console": {"is_none": "no_bytes"},
+    "model": {"sum": "sum_below", "or_else": "first_there"},
+    "options": {"scan": "scan_of"},
 }
 OF_A_GOAL = re.compile(r":\s*(goal|given)\.")
 
@@ -46,11 +52,13 @@ def respelled(name):
     return re.sub(r"(?<=[a-z0-9])([A-Z])", lambda m: "_" + m[1], name).lower().replace("-", "_")
 
 
-def result_renamed(path, text):
+def renamed(path, text):
     """A clause names what a call returns `result`: what an order makes of a configuration has the name `result_of`."""
+    names = {"result": "result_of"} | OF_THE_LIBRARY.get(path.split(os.sep)[1], {})
+    word = re.compile(r"(?<![\w.'-])(" + "|".join(names) + r")(?![\w'-])")
     if path.endswith(".antt"):
         return "\n".join(
-            re.sub(r"(?<![\w.'-])result(?![\w'-])", "result_of", code) + mark + comment
+            (code if code.startswith("use Rattle.std") else word.sub(lambda m: names[m[1]], code)) + mark + comment
             for code, mark, comment in (line.partition("--") for line in text.split("\n")))
     return text.replace("(result (", "(result_of (").replace("specs.Orders.{result,", "specs.Orders.{result_of,")
 
@@ -66,7 +74,7 @@ def main():
             if m and not OF_A_GOAL.search(line) and respelled(m[1]) != m[1]:
                 turned[m[1]] = respelled(m[1])
     for path, text in files.items():
-        files_new = result_renamed(path, text)
+        files_new = renamed(path, text)
         if files_new != text:
             with open(path, "w", encoding="utf-8") as f:
                 f.write(files_new)

@@ -27,12 +27,12 @@ label_of Required = codes "requires"
 label_of Successors = codes "next"
 
 -- nothing is listed
-abbrev pub is_none : List ℕ → Bool
-is_none bs = length bs == 0
+abbrev pub no_bytes : List ℕ → Bool
+no_bytes bs = length bs == 0
 
 -- the list with the number n too, behind a comma if it is not the first
 abbrev pub listed_with : List ℕ → ℕ → List ℕ
-listed_with bs n = bs ++ (cond (is_none bs) [] (codes ",") ++ decimal n)
+listed_with bs n = bs ++ (cond (no_bytes bs) [] (codes ",") ++ decimal n)
 
 -- the numbers below n that pass, with commas between them
 unfoldable pub listed : (ℕ → Bool) → ℕ → List ℕ
@@ -41,7 +41,7 @@ listed f (suc n) = let bs = listed f n in cond (f n) (listed_with bs n) bs
 
 -- the label of the set and the list, or a dash where the list is empty
 abbrev pub labelled_list : Set → List ℕ → List ℕ
-labelled_list set bs = label_of set ++ (codes " " ++ cond (is_none bs) (codes "-") bs)
+labelled_list set bs = label_of set ++ (codes " " ++ cond (no_bytes bs) (codes "-") bs)
 
 -- the label of the set of the state q of the type t, and the numbers in it
 unfoldable pub set_text_of : Universe → Set → ℕ → ℕ → List ℕ

@@ -2,7 +2,7 @@
 use Rattle.std.proofs.Common.{◌≡◌, ℕ, zero, suc, ◌+◌, ◌<◌, ◌≤◌, Bool, true, false, ◌⊎◌, Some, None, Option, refl, ap, ◌∙◌, inl, inr, add-one, arith}
 use mathlib.Core.Bool.{false≢true}
 use Rattle.std.proofs.lemmas.Bool.{both_ways, cases_lt, or_cases, or_from, or_left, or_right}
-use Rattle.model.specs.Search.{any, or_else, find_first}
+use Rattle.model.specs.Search.{any, first_there, find_first}
 
 -- a test that cannot pass
 pub refuted : (b : Bool) → (b ≡ true → ⊥) → b ≡ false
@@ -52,12 +52,12 @@ pub any_end : (f : ℕ → Bool) (i n : ℕ) → any f i ≡ false → i ≤ n �
 any_end f i n p h k = let same : n ≡ i = omega arith in ap (any f) same ∙ p
 
 -- neither is there
-neither : {X : Type 0} (o q : Option X) → or_else o q ≡ None → (o ≡ None) × (q ≡ None)
+neither : {X : Type 0} (o q : Option X) → first_there o q ≡ None → (o ≡ None) × (q ≡ None)
 neither None q e = (refl, e)
 neither (Some a) q e = absurd (let z : ◌≡◌ {A = ℕ} 0 1 = cc in omega arith)
 
 -- which of two it is
-either : {X : Type 0} (o q : Option X) (a : X) → or_else o q ≡ Some a → (o ≡ Some a) ⊎ ((o ≡ None) × (q ≡ Some a))
+either : {X : Type 0} (o q : Option X) (a : X) → first_there o q ≡ Some a → (o ≡ Some a) ⊎ ((o ≡ None) × (q ≡ Some a))
 either None q a e = inr (refl, e)
 either (Some b) q a e = inl e
 

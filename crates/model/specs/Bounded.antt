@@ -1,5 +1,5 @@
 -- The search for gaps among the instances below a bound, which a program can make.
-use Rattle.std.specs.Prelude.{◌≡◌, ℕ, ◌<◌, ◌≤◌, Bool, true, false, not, ◌&&◌, None}
+use Rattle.std.specs.Prelude.{◌≡◌, ℕ, ◌<◌, ◌≤◌, Bool, true, not, ◌&&◌, None}
 use Rattle.model.specs.Search.{any}
 use Rattle.model.specs.Universe.{Universe}
 use Rattle.model.specs.Config.{Config, provided, required}

@@ -1,5 +1,5 @@
 -- Configurations: the instances that stand and the bindings between them.
-use Rattle.std.specs.Prelude.{◌≡◌, ℕ, ◌<◌, Bool, true, false, ◌≢◌, Some, None, Option}
+use Rattle.std.specs.Prelude.{◌≡◌, ℕ, Bool, true, false, ◌≢◌, Some, None, Option}
 use Rattle.model.specs.declared.pair.Pair.{Pair}
 use Rattle.model.specs.Search.{any}
 use Rattle.model.specs.Universe.{Universe, IsPair}

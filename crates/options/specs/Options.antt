@@ -58,23 +58,23 @@ with_value_of g Bindings w = option_map (λ n. record { instances = g.instances;
 with_value_of g Delay w = option_map (λ n. record { instances = g.instances; bindings = g.bindings; delay = Some n; layers = g.layers }) (number_of w)
 with_value_of g LayersFlag w = option_map (λ l. record { instances = g.instances; bindings = g.bindings; delay = g.delay; layers = Some l }) (layers_of_text w)
 
-abbrev pub scan : Given → Option Flag → Scan
-scan g a = record { given = g; awaited = a }
+abbrev pub scan_of : Given → Option Flag → Scan
+scan_of g a = record { given = g; awaited = a }
 
 -- the value of a flag was read, or it was none
 abbrev pub valued : Flag → Option Given → Result Scan Reason
-valued f (Some g) = Ok (scan g None)
+valued f (Some g) = Ok (scan_of g None)
 valued f None = Err (BadValue f)
 
 -- the value of a flag that has one comes next
 abbrev pub begun : Given → Option Flag → Result Scan Reason
 begun g None = Err Unknown
-begun g (Some f) = cond (has g f) (Err (Twice f)) (Ok (scan g (Some f)))
+begun g (Some f) = cond (has g f) (Err (Twice f)) (Ok (scan_of g (Some f)))
 
 -- one more word: the value of the flag that awaits one, else an option or a plain word
 abbrev pub heard : Given → Option Flag → List ℕ → Result Scan Reason
 heard g (Some f) w = valued f (with_value_of g f w)
-heard g None w = cond (option_test w) (begun g (flag_of_text w)) (Ok (scan g None))
+heard g None w = cond (option_test w) (begun g (flag_of_text w)) (Ok (scan_of g None))
 
 -- behind the last word no value may be missing
 abbrev pub ended : ℕ → Given → Option Flag → Result Given Fault
@@ -93,7 +93,7 @@ given_from place s (w ∷ ws) = going_on place (heard s.given s.awaited w) (λ t
 
 -- the values that the words give
 abbrev pub given_by : List (List ℕ) → Result Given Fault
-given_by ws = given_from 0 (scan (record { instances = None; bindings = None; delay = None; layers = None }) None) ws
+given_by ws = given_from 0 (scan_of (record { instances = None; bindings = None; delay = None; layers = None }) None) ws
 
 -- the places of the plain words, from a place on; whether the first word is the value of an option
 unfoldable pub plain_places : ℕ → Bool → List (List ℕ) → List ℕ

@@ -307,19 +307,22 @@ mod tests {
         Err(Fault { place, reason })
     }
 
-    fn check_all(
+    // The place of the first case that is answered otherwise, or none.
+    fn first_wrong(
         rt: &HostRuntime,
         cases: &[(&str, Result<HostOptions, Fault>)],
-    ) -> Result<(), Fail> {
-        for (text, expected) in cases {
-            assert_eq!(options(rt, text)?, *expected);
+    ) -> Result<Option<usize>, Fail> {
+        for (place, (text, expected)) in cases.iter().enumerate() {
+            if options(rt, text)? != *expected {
+                return Ok(Some(place));
+            }
         }
-        Ok(())
+        Ok(None)
     }
 
     #[test]
     fn values(rt: HostRuntime) -> Result<(), Fail> {
-        check_all(
+        let wrong = first_wrong(
             &rt,
             &[
                 ("a b", host(256, 2048, 0, Layers::None)),
@@ -336,12 +339,14 @@ mod tests {
                 ),
                 ("- -a -delay", host(256, 2048, 0, Layers::None)),
             ],
-        )
+        )?;
+        assert_eq!(rt; wrong, None);
+        Ok(())
     }
 
     #[test]
     fn faults(rt: HostRuntime) -> Result<(), Fail> {
-        check_all(
+        let wrong = first_wrong(
             &rt,
             &[
                 ("a --steps 3", fault(1, Reason::Unknown)),
@@ -363,7 +368,9 @@ mod tests {
                 ("--layers vvv", fault(1, Reason::BadValue(Flag::Layers))),
                 ("--layers V", fault(1, Reason::BadValue(Flag::Layers))),
             ],
-        )
+        )?;
+        assert_eq!(rt; wrong, None);
+        Ok(())
     }
 
     #[test]

@@ -1,5 +1,5 @@
 -- An order that no rule refuses can be worked on the records, and what it leaves is a table again. Assumes nothing.
-use Rattle.std.proofs.Common.{◌≡◌, ℕ, ◌-◌, ◌<◌, ◌≤◌, Bool, true, false, Some, None, Option, sym, refl, ap, subst, arith}
+use Rattle.std.proofs.Common.{◌≡◌, ℕ, ◌<◌, ◌≤◌, Bool, true, false, Some, None, Option, sym, refl, ap, subst, arith}
 use Rattle.std.proofs.lemmas.Bool.{eqb-false}
 use Rattle.model.specs.declared.order.Order.{Order}
 use Rattle.model.specs.declared.order.Order.TheVariants.{Create, Bind, Change, Unbind, Delete}
@@ -9,7 +9,6 @@ use Rattle.model.proofs.Results.{same_self}
 use Rattle.universe.specs.declared.tables.Tables.{Tables}
 use Rattle.universe.specs.Tables.{universe_of}
 use Rattle.hosts.specs.declared.refusal.Offence.{Offence}
-use Rattle.hosts.specs.declared.refusal.Reason.{Reason}
 use Rattle.hosts.specs.declared.refusal.Reason.TheVariants.{Full}
 use Rattle.hosts.specs.Survey.{Lawful}
 use Rattle.hosts.specs.Offences.{offence, refused_if}

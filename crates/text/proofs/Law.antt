@@ -4,7 +4,7 @@ use Rattle.std.proofs.lemmas.Fmt.{decimal_is_IsNumeral}
 use Rattle.std.proofs.lemmas.Bool.{eqb-true, lt-ltb, ltb-true, cond-true, cond-false, cases_Bool, and_parts, and_from}
 use Rattle.model.specs.declared.order.Order.{Order}
 use Rattle.model.specs.declared.order.Order.TheVariants.{Create, Bind, Change, Unbind, Delete}
-use Rattle.text.specs.Written.{written, number_of, two, three, of_one, of_two, of_three, lettered, letter_of_order, ordered, order_of}
+use Rattle.text.specs.Written.{written, number_of, two, three, of_one, of_two, of_three, lettered, letter_of_line, ordered, order_of}
 use Rattle.text.specs.Law.{letter, numbers, Spells, SpellsAll, Writes, AllNarrow, Narrow, WrittenLaw}
 use Rattle.text.proofs.Reading.{never, number_reads, number_read, two_reads, two_read, three_reads, three_read}
 
@@ -57,7 +57,7 @@ opened [] h e = absurd (let no : ⊥ = omega arith in no)
 opened (a ∷ []) h e = absurd (let no : ⊥ = omega arith in no)
 opened (a ∷ b ∷ bs) h e = ap (λ x. a ∷ x ∷ bs) e
 
-letter_reads : (bs : List ℕ) (l : ℕ) → letter_of_order bs ≡ Some l → bs ≡ l ∷ 32 ∷ drop 2 bs
+letter_reads : (bs : List ℕ) (l : ℕ) → letter_of_line bs ≡ Some l → bs ≡ l ∷ 32 ∷ drop 2 bs
 letter_reads bs l e =
     elim (cases_Bool (ltb 1 (length bs) && eqb (get_or bs 1 0) 32)) [
       | inl it ↦
@@ -65,20 +65,20 @@ letter_reads bs l e =
           let found : Some (get_or bs 0 0) ≡ Some l = sym (cond-true (ltb 1 (length bs) && eqb (get_or bs 1 0) 32) (Some (get_or bs 0 0)) None it) ∙ e in
           let same : get_or bs 0 0 ≡ l = cc in
           opened bs (ltb-true 1 (length bs) p.0) (eqb-true (get_or bs 1 0) 32 p.1) ∙ ap (λ x. x ∷ 32 ∷ drop 2 bs) same
-      | inr not ↦ never (letter_of_order bs) l (cond-false (ltb 1 (length bs) && eqb (get_or bs 1 0) 32) (Some (get_or bs 0 0)) None not) e
+      | inr not ↦ never (letter_of_line bs) l (cond-false (ltb 1 (length bs) && eqb (get_or bs 1 0) 32) (Some (get_or bs 0 0)) None not) e
     ]
 
-letter_read : (l : ℕ) (ds : List ℕ) → letter_of_order (l ∷ 32 ∷ ds) ≡ Some l
+letter_read : (l : ℕ) (ds : List ℕ) → letter_of_line (l ∷ 32 ∷ ds) ≡ Some l
 letter_read l ds = cond-true (ltb 1 (length (l ∷ 32 ∷ ds)) && eqb 32 32) (Some l) None (and_from (ltb 1 (length (l ∷ 32 ∷ ds))) (eqb 32 32) (lt-ltb 1 (length (l ∷ 32 ∷ ds)) (omega arith)) refl)
 
-ordered_told : (bs : List ℕ) (o : Order) (n : Option ℕ) → letter_of_order bs ≡ n → ordered n (drop 2 bs) ≡ Some o → Writes bs o × Narrow o
+ordered_told : (bs : List ℕ) (o : Order) (n : Option ℕ) → letter_of_line bs ≡ n → ordered n (drop 2 bs) ≡ Some o → Writes bs o × Narrow o
 ordered_told bs o None p e = never (ordered None (drop 2 bs)) o refl e
 ordered_told bs o (Some l) p e =
     let t = lettered_told l (drop 2 bs) o e in
     ((drop 2 bs, letter_reads bs l p ∙ ap (λ x. x ++ (32 ∷ drop 2 bs)) (sym t.0), t.1), t.2)
 
 pub reads : (bs : List ℕ) (o : Order) → order_of bs ≡ Some o → Writes bs o × Narrow o
-reads bs o e = ordered_told bs o (letter_of_order bs) refl e
+reads bs o e = ordered_told bs o (letter_of_line bs) refl e
 
 -- a text that begins with a letter and a blank is read by its letter
 order_read : (l : ℕ) (ds bs : List ℕ) → bs ≡ l ∷ 32 ∷ ds → order_of bs ≡ lettered l ds

@@ -95,8 +95,8 @@ lettered l ds =
     cond (l == 100) (of_one Delete (number_of ds)) None))))
 
 -- the first byte, if a blank follows it
-abbrev pub letter_of_order : List ℕ → Option ℕ
-letter_of_order bs = cond (nat_lt 1 (length bs) && slice_index bs 1 == 32) (Some (slice_index bs 0)) None
+abbrev pub letter_of_line : List ℕ → Option ℕ
+letter_of_line bs = cond (nat_lt 1 (length bs) && slice_index bs 1 == 32) (Some (slice_index bs 0)) None
 
 -- the order of a letter, if it is there, and its numbers
 abbrev pub ordered : Option ℕ → List ℕ → Option Order
@@ -105,4 +105,4 @@ ordered (Some l) ds = lettered l ds
 
 -- the order that a text is read as: a letter, a blank, and the numbers
 abbrev pub order_of : List ℕ → Option Order
-order_of bs = ordered (letter_of_order bs) (drop 2 bs)
+order_of bs = ordered (letter_of_line bs) (drop 2 bs)

@@ -3,7 +3,7 @@
 
 ghost use Rattle.std.specs.Prelude.{◌≡◌, ◌≤◌, length, drop, IfOk, string_bytes};
 ghost use Rattle.text.specs.Law.{WrittenLaw};
-ghost use Rattle.text.specs.Written.{written, grown, number_of, blank, front, rest, two, three, lettered, letter_of_order, order_of};
+ghost use Rattle.text.specs.Written.{written, grown, number_of, blank, front, rest, two, three, lettered, letter_of_line, order_of};
 
 use model::order::Order;
 use std::alloc::{AllocError, Global};
@@ -142,7 +142,7 @@ fn order_of(letter: u8, numbers: &[u8]) -> Option<Order>
 
 // The letter of a line, if a blank follows it.
 fn letter_of(line: &[u8]) -> Option<u8>
-    ensures { result ≡ letter_of_order line.now }
+    ensures { result ≡ letter_of_line line.now }
 {
     match line {
         [letter, b' ', ..] => Some(*letter),

@@ -2,7 +2,7 @@
 use Rattle.std.proofs.Common.{◌≡◌, ℕ, List, [], ◌∷◌, Ok, Err, sym, refl, ap, ◌∙◌, arith}
 use Rattle.universe.specs.declared.refusal.UniverseRefusal.{UniverseRefusal}
 use Rattle.universe.specs.declared.tables.Tables.{Tables}
-use Rattle.universe.specs.Tables.{Sound, least_tables_of, universe_of}
+use Rattle.universe.specs.Tables.{Sound, tables_of_least, universe_of}
 use Rattle.universe.specs.Reading.{tables_read, header_read, kind_read, count_read, state_read, many, total}
 use Rattle.universe.specs.Sets.{has, has_from}
 use Rattle.model.specs.Search.{any}
@@ -29,6 +29,6 @@ refused bs d r u v e =
     omega arith
 
 -- the least universe is valid: its packed form is read
-pub least_sound : Sound least_tables_of
+pub least_sound : Sound tables_of_least
 unfolding tables_read header_read kind_read count_read state_read many total has has_from any
-least_sound = read_sound (8 ∷ 0 ∷ 16 ∷ 0 ∷ 0 ∷ 0 ∷ 0 ∷ 0 ∷ 0 ∷ 0 ∷ 0 ∷ 0 ∷ []) least_tables_of refl
+least_sound = read_sound (8 ∷ 0 ∷ 16 ∷ 0 ∷ 0 ∷ 0 ∷ 0 ∷ 0 ∷ 0 ∷ 0 ∷ 0 ∷ 0 ∷ []) tables_of_least refl

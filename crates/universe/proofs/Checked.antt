@@ -1,16 +1,15 @@
 -- Tables that were read hold a valid universe.
-use Rattle.std.proofs.Common.{◌≡◌, ℕ, zero, suc, ◌+◌, ◌-◌, ◌*◌, ◌/◌, ◌%◌, ◌^◌, ◌<◌, ◌≤◌, Bool, true, false, cond, not, ◌&&◌, ◌||◌, eqb, ltb, ◌⊎◌, List, [], ◌∷◌, ◌++◌, length, get_or, drop, replicate, Ok, Err, sym, refl, ap, ◌∙◌, inl, inr, zero-add, arith}
+use Rattle.std.proofs.Common.{◌≡◌, ℕ, ◌+◌, ◌-◌, ◌*◌, ◌/◌, ◌%◌, ◌^◌, ◌<◌, ◌≤◌, Bool, true, false, not, ◌&&◌, ◌||◌, eqb, ltb, ◌⊎◌, List, [], ◌++◌, length, get_or, drop, replicate, Ok, sym, refl, ap, ◌∙◌, inl, inr, zero-add, arith}
 use native.Mathlib.Nat.{zero-div}
-use Rattle.std.proofs.lemmas.List.{get_or_append_left, get_or-append_right, get_or_past, get_or-replicate, length-append, length-replicate, get_or_default}
-use Rattle.std.proofs.lemmas.Bool.{both_ways, or_parts, eqb-true, eq-eqb, not-false, ltb-false, cases_lt, cases_Bool, and_cases}
-use Rattle.model.specs.Universe.{Universe, Valid, IsPair}
+use Rattle.std.proofs.lemmas.List.{get_or_append_left, get_or-append_right, get_or_past, get_or-replicate, length-append, length-replicate}
+use Rattle.std.proofs.lemmas.Bool.{both_ways, or_parts, eqb-true, eq-eqb, not-false, ltb-false, cases_lt, and_cases}
 use Rattle.universe.specs.declared.tables.State.{State}
 use Rattle.universe.specs.declared.tables.Kind.{Kind}
 use Rattle.universe.specs.declared.tables.Tables.{Tables}
 use Rattle.universe.specs.declared.groups.Header.{Header}
 use Rattle.universe.specs.Sets.{has, has_from}
-use Rattle.universe.specs.Tables.{unused_kind, Sound, blank_state, blank_kind, kind_at, entry_at, universe_of}
-use Rattle.universe.specs.Reading.{Read, and_then, many, header_of_word, header_read, count_of, count_read, state_of, state_read, state_size, kind_of, kind_read, kind_size, tables_of, ended, total, tables_read, word_at}
+use Rattle.universe.specs.Tables.{unused_kind, Sound, blank_state, blank_kind, kind_at, entry_at}
+use Rattle.universe.specs.Reading.{many, header_of_word, header_read, count_of, count_read, state_of, state_read, state_size, kind_of, kind_read, kind_size, tables_of, total, tables_read}
 use Rattle.universe.proofs.PackedSets.{below_from}
 use Rattle.universe.proofs.Eaches.{Each, each_at, then_ok, if_ok, ok_same, many_each, get_d_filled}
 

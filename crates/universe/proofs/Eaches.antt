@@ -1,5 +1,5 @@
 -- What holds of each item of a list by its number, and items read in a row.
-use Rattle.std.proofs.Common.{◌≡◌, ℕ, zero, suc, ◌+◌, ◌-◌, ◌<◌, ◌≤◌, Bool, true, false, cond, List, [], ◌∷◌, ◌++◌, length, get_or, drop, replicate, Ok, Err, sym, refl, ap, ◌∙◌, subst, add-zero, add-suc, suc-add, add-one, arith}
+use Rattle.std.proofs.Common.{◌≡◌, ℕ, zero, suc, ◌+◌, ◌<◌, Bool, true, false, List, [], ◌∷◌, ◌++◌, length, get_or, drop, replicate, Ok, Err, sym, refl, ap, ◌∙◌, add-zero, add-suc, suc-add, add-one, arith}
 use Rattle.std.proofs.lemmas.List.{append_assoc, drop-drop, get_or_at, length_push}
 use Rattle.std.specs.List.{flat_map}
 use Rattle.universe.specs.declared.refusal.UniverseRefusal.{UniverseRefusal}

@@ -1,11 +1,10 @@
 -- The turns of the loop that reads a type.
-use Rattle.std.proofs.Common.{◌≡◌, ℕ, zero, suc, ◌+◌, ◌-◌, ◌*◌, ◌<◌, ◌≤◌, true, false, cond, List, [], ◌∷◌, ◌++◌, length, take, drop, set, Ok, Err, sym, refl, ap, ◌∙◌, arith}
+use Rattle.std.proofs.Common.{◌≡◌, ℕ, suc, ◌+◌, ◌-◌, ◌*◌, ◌<◌, ◌≤◌, List, [], ◌∷◌, ◌++◌, length, take, drop, set, Ok, Err, sym, refl, ap, ◌∙◌, arith}
 use Rattle.std.proofs.lemmas.List.{append_assoc, append-nil, drop-drop, take_more_set, length-take-le, length-drop, take_rest}
 use Rattle.universe.specs.declared.refusal.UniverseRefusal.{UniverseRefusal}
 use Rattle.universe.specs.declared.tables.State.{State}
-use Rattle.universe.specs.declared.tables.Kind.{Kind}
 use Rattle.universe.specs.Tables.{blank_state}
-use Rattle.universe.specs.Reading.{Read, and_then, many, filled, count_read, state_read, state_size, kind_of, kind_read}
+use Rattle.universe.specs.Reading.{Read, and_then, many, count_read, state_read, state_size, kind_of, kind_read}
 use Rattle.universe.proofs.Manies.{many_more, many_refused, many_done, Filling, filling_none, filling_more, filling_all}
 
 -- the reading of the type is what was filled in so far, and the reading of what is left

@@ -1,8 +1,8 @@
 -- Items read in a row, one turn of a loop after the other.
-use Rattle.std.proofs.Common.{◌≡◌, ℕ, zero, suc, ◌+◌, ◌-◌, ◌<◌, ◌≤◌, List, [], ◌∷◌, ◌++◌, length, take, drop, set, replicate, Ok, Err, sym, refl, ap, ◌∙◌, add-one, arith, length-set}
-use Rattle.std.proofs.lemmas.List.{append_assoc, append-nil, drop-drop, drop-set-lt, take_more_set, take-append-drop, length-take-le, length-replicate}
+use Rattle.std.proofs.Common.{◌≡◌, ℕ, suc, ◌+◌, ◌-◌, ◌<◌, ◌≤◌, List, [], ◌∷◌, length, take, drop, set, replicate, Ok, Err, sym, refl, ap, ◌∙◌, add-one, arith, length-set}
+use Rattle.std.proofs.lemmas.List.{drop-drop, drop-set-lt, take-append-drop, length-take-le, length-replicate}
 use Rattle.universe.specs.declared.refusal.UniverseRefusal.{UniverseRefusal}
-use Rattle.universe.specs.Reading.{Read, and_then, many, filled, total}
+use Rattle.universe.specs.Reading.{Read, and_then, many, filled}
 
 pub then_then : {X Y Z : Type 0} (r : Read X) (f : X → Read Y) (g : Y → Read Z) → and_then (and_then r f) g ≡ and_then r (λ x. and_then (f x) g)
 then_then (Ok x) f g = refl

@@ -1,21 +1,19 @@
 -- What was read is packed again to the bytes that it was read from.
-use Rattle.std.proofs.Common.{◌≡◌, ℕ, zero, suc, ◌+◌, ◌-◌, ◌*◌, ◌/◌, ◌%◌, ◌^◌, ◌<◌, ◌≤◌, ltb, List, [], ◌∷◌, ◌++◌, length, get_or, take, drop, replicate, Ok, Err, sym, refl, ap, ◌∙◌, add-zero, add-suc, zero-add, arith}
-use Rattle.std.proofs.lemmas.List.{append-nil, append_assoc, drop-drop, drop_all, take_at, get_or-drop}
+use Rattle.std.proofs.Common.{◌≡◌, ℕ, zero, suc, ◌+◌, ◌-◌, ◌*◌, ◌/◌, ◌%◌, ◌^◌, ◌<◌, ◌≤◌, ltb, List, [], ◌∷◌, ◌++◌, length, get_or, take, drop, replicate, Ok, sym, refl, ap, ◌∙◌, arith}
+use Rattle.std.proofs.lemmas.List.{append-nil, drop-drop, drop_all, take_at, get_or-drop}
 use Rattle.std.proofs.lemmas.Bool.{ltb-false}
 use Rattle.std.proofs.lemmas.Nat.{shr-shr}
 use Rattle.std.specs.List.{flat_map}
-use Rattle.model.specs.Universe.{Universe, Valid}
 use Rattle.universe.specs.declared.tables.State.{State}
 use Rattle.universe.specs.declared.tables.Kind.{Kind}
 use Rattle.universe.specs.declared.tables.Tables.{Tables}
-use Rattle.universe.specs.declared.groups.Header.{Header}
 use Rattle.universe.specs.Sets.{has, field}
-use Rattle.universe.specs.Tables.{unused_kind, blank_state, blank_kind, kind_at, entry_at, universe_of}
-use Rattle.universe.specs.Reading.{Read, many, count_read, count_of, state_read, state_of, state_size, kind_of, kind_read, kind_size, tables_of, total, tables_read, word_at}
+use Rattle.universe.specs.Tables.{unused_kind, blank_state, blank_kind, kind_at, universe_of}
+use Rattle.universe.specs.Reading.{many, count_read, count_of, state_read, state_size, kind_of, kind_read, kind_size, tables_of, total, tables_read, word_at}
 use Rattle.universe.specs.Packed.{word_form, state_form, entry_of, rows, kind_form, header_bits, packed_form}
 use Rattle.universe.proofs.PackedSets.{field_has}
-use Rattle.universe.proofs.Eaches.{Each, each_map, each_both, each_places, then_ok, if_ok, ok_same, many_each, many_forms, get_d_filled}
-use Rattle.universe.proofs.Checked.{state_told, count_told, header_told, FileRead, file_read}
+use Rattle.universe.proofs.Eaches.{Each, each_both, each_places, then_ok, if_ok, ok_same, many_each, many_forms}
+use Rattle.universe.proofs.Checked.{state_told, count_told, header_told, file_read}
 
 -- every place holds a byte
 abbrev pub Bytes : List ℕ → Type 0

@@ -1,21 +1,20 @@
 -- The packed form of a universe is read, and what is read is that universe.
-use Rattle.std.proofs.Common.{◌≡◌, ℕ, zero, suc, ◌+◌, ◌-◌, ◌*◌, ◌/◌, ◌%◌, ◌^◌, ◌<◌, ◌≤◌, Bool, true, false, cond, not, ◌&&◌, ◌||◌, eqb, ltb, ◌⊎◌, List, [], ◌∷◌, ◌++◌, length, get_or, take, drop, replicate, Ok, Err, sym, refl, ap, ◌∙◌, inl, inr, add-zero, add-suc, suc-add, zero-add, arith}
+use Rattle.std.proofs.Common.{◌≡◌, ℕ, zero, suc, ◌+◌, ◌-◌, ◌*◌, ◌/◌, ◌%◌, ◌^◌, ◌<◌, ◌≤◌, Bool, true, false, not, ◌&&◌, eqb, ◌⊎◌, List, [], ◌∷◌, ◌++◌, length, get_or, take, drop, replicate, Ok, sym, refl, ap, ◌∙◌, inl, inr, add-zero, add-suc, suc-add, zero-add, arith}
 use mathlib.Core.Path.{fun_ext}
 use Rattle.std.proofs.lemmas.Nat.{shr-shr, div-add-mod'}
-use Rattle.std.proofs.lemmas.List.{append-nil, append_assoc, drop_at, take_at, length-append, get_or_past}
-use Rattle.std.proofs.lemmas.Bool.{le-ltb, eq-eqb, ne_eqb, both_ways, cases_lt, cases_Bool, or_from, and_left, and_right}
+use Rattle.std.proofs.lemmas.List.{append-nil, drop_at, take_at, length-append, get_or_past}
+use Rattle.std.proofs.lemmas.Bool.{le-ltb, eq-eqb, cases_lt, and_left, and_right}
 use Rattle.std.proofs.lemmas.Bool.Decides.{eqb_tells}
 use Rattle.std.specs.List.{flat_map}
 use Rattle.model.specs.Universe.{Universe, Valid}
 use Rattle.model.proofs.Searches.{refuted}
 use Rattle.universe.specs.declared.tables.State.{State}
 use Rattle.universe.specs.declared.tables.Kind.{Kind}
-use Rattle.universe.specs.declared.tables.Tables.{Tables}
 use Rattle.universe.specs.declared.groups.Header.{Header}
-use Rattle.universe.specs.Sets.{has, has_from, field}
+use Rattle.universe.specs.Sets.{has, field}
 use Rattle.universe.specs.Tables.{blank_state, blank_kind, kind_at, entry_at, universe_of}
-use Rattle.universe.specs.Reading.{Read, and_then, many, header_of_word, header_read, count_of, count_read, state_of, state_read, state_size, kind_of, kind_read, kind_size, tables_of, ended, total, tables_read, word_at}
-use Rattle.universe.specs.Packed.{word_form, state_form, entry_of, rows, kind_form, header_bits, packed_form}
+use Rattle.universe.specs.Reading.{many, header_of_word, header_read, count_of, count_read, state_of, state_read, state_size, kind_of, kind_read, kind_size, tables_of, total, tables_read, word_at}
+use Rattle.universe.specs.Packed.{state_form, entry_of, rows, kind_form, header_bits, packed_form}
 use Rattle.universe.proofs.PackedSets.{has_field, has_below, has_past, from_below}
 use Rattle.universe.proofs.Eaches.{Each, each_map, many_reads, get_d_filled}
 use Rattle.universe.proofs.Checked.{StateOk, KindOk, kind_of_lem, kind_unused, has_zero}

@@ -1,11 +1,11 @@
 -- Laws of packed sets, over the width.
-use Rattle.std.proofs.Common.{◌≡◌, ℕ, zero, suc, ◌+◌, ◌-◌, ◌*◌, ◌/◌, ◌%◌, ◌^◌, ◌<◌, ◌≤◌, Bool, true, false, cond, ◌&&◌, eqb, ltb, leb, ◌⊎◌, sym, refl, ap, ◌∙◌, inl, inr, div-one, arith}
+use Rattle.std.proofs.Common.{◌≡◌, ℕ, zero, suc, ◌+◌, ◌-◌, ◌*◌, ◌/◌, ◌%◌, ◌^◌, ◌<◌, ◌≤◌, Bool, true, false, cond, ◌&&◌, eqb, ltb, leb, sym, refl, ◌∙◌, inl, inr, div-one, arith}
 use native.Mathlib.Nat.{pow-succ'}
 use lib.Bits.{bit_and}
 use Rattle.std.proofs.lemmas.Nat.{and_mask, shr-shr, div-add-mod'}
-use Rattle.std.proofs.lemmas.Bool.{lt-ltb, le-ltb, le-leb, lt-leb, ltb-true, cases_lt, cases_Bool, and_parts, and_from, and_left, and_right, both_ways}
+use Rattle.std.proofs.lemmas.Bool.{lt-ltb, le-ltb, le-leb, lt-leb, cases_lt, and_parts, and_from, both_ways}
 use Rattle.model.specs.Search.{any}
-use Rattle.model.proofs.Searches.{any_found, any_some, any_no, any_end, any_none_of}
+use Rattle.model.proofs.Searches.{any_found, any_end, any_none_of}
 use Rattle.universe.specs.Sets.{has, has_from, field}
 
 -- the test by shift and mask

@@ -1,14 +1,13 @@
 -- The turns of the loop that reads the types of a universe.
-use Rattle.std.proofs.Common.{◌≡◌, ℕ, zero, suc, ◌+◌, ◌-◌, ◌*◌, ◌<◌, ◌≤◌, true, false, cond, not, eqb, List, [], ◌∷◌, ◌++◌, length, take, drop, set, replicate, Ok, Err, sym, refl, ap, ◌∙◌, add_assoc, zero-add, arith}
-use Rattle.std.proofs.lemmas.List.{append_assoc, append-nil, drop-drop, take_more_set, length-take-le, length-drop, take_rest}
+use Rattle.std.proofs.Common.{◌≡◌, ℕ, suc, ◌+◌, ◌-◌, ◌<◌, ◌≤◌, List, [], ◌∷◌, ◌++◌, length, take, drop, set, replicate, Ok, Err, sym, refl, ap, ◌∙◌, arith}
+use Rattle.std.proofs.lemmas.List.{append_assoc, append-nil, drop-drop, take_more_set, length-drop, take_rest}
 use Rattle.std.proofs.lemmas.Bool.{eq-eqb, ne_eqb}
 use Rattle.universe.specs.declared.refusal.UniverseRefusal.{UniverseRefusal}
 use Rattle.universe.specs.declared.refusal.UniverseRefusal.TheVariants.{Length}
 use Rattle.universe.specs.declared.tables.Kind.{Kind}
-use Rattle.universe.specs.declared.tables.Tables.{Tables}
 use Rattle.universe.specs.declared.groups.Header.{Header}
 use Rattle.universe.specs.Tables.{unused_kind}
-use Rattle.universe.specs.Reading.{Read, and_then, many, filled, header_read, kind_read, kind_size, tables_of, ended, total, tables_read}
+use Rattle.universe.specs.Reading.{Read, and_then, many, header_read, kind_read, kind_size, ended, total, tables_read}
 use Rattle.universe.proofs.Manies.{many_more, many_refused, many_done, Filling, filling_none, filling_more, filling_all}
 
 pub total_push : {X : Type 0} (size : X → ℕ) (xs : List X) (x : X) → total size (xs ++ (x ∷ [])) ≡ total size xs + size x

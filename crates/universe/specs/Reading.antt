@@ -1,6 +1,6 @@
 -- How a universe file is read, group by group: the first group with an offence refuses it,
 -- with the lowest number that applies there.
-use Rattle.std.specs.Prelude.{◌≡◌, ℕ, zero, suc, ◌+◌, ◌-◌, ◌*◌, ◌/◌, ◌%◌, ◌^◌, Bool, cond, not, ◌&&◌, ◌||◌, List, [], ◌∷◌, ◌++◌, length, drop, replicate, Ok, Err, Result, ◌==◌, nat_lt, slice_index}
+use Rattle.std.specs.Prelude.{ℕ, zero, suc, ◌+◌, ◌-◌, ◌*◌, ◌/◌, ◌%◌, ◌^◌, Bool, cond, not, ◌&&◌, ◌||◌, List, [], ◌∷◌, ◌++◌, length, drop, replicate, Ok, Err, Result, ◌==◌, nat_lt, slice_index}
 use Rattle.universe.specs.declared.refusal.UniverseRefusal.{UniverseRefusal}
 use Rattle.universe.specs.declared.refusal.UniverseRefusal.TheVariants.{Length, Count, ZeroBit, Port, Successor, InitialState}
 use Rattle.universe.specs.declared.tables.State.{State}

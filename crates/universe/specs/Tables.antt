@@ -19,8 +19,8 @@ abbrev pub unused_kind : Kind
 unused_kind = record { count = 0; states = replicate 8 blank_state }
 
 -- the tables of the least universe: one type of one state, and no ports
-abbrev pub least_tables_of : Tables
-least_tables_of = record { types = 1; ports = 0; kinds = record { count = 1; states = replicate 8 blank_state } ∷ replicate 15 unused_kind }
+abbrev pub tables_of_least : Tables
+tables_of_least = record { types = 1; ports = 0; kinds = record { count = 1; states = replicate 8 blank_state } ∷ replicate 15 unused_kind }
 
 -- the type t
 abbrev pub kind_at : Tables → ℕ → Kind

@@ -1,6 +1,6 @@
 // A universe: entries that keep to the rules of the model.
 ghost use Rattle.std.specs.Prelude.{◌≡◌};
-ghost use Rattle.universe.specs.Tables.{Sound, entry_at, least_tables_of, universe_of};
+ghost use Rattle.universe.specs.Tables.{Sound, entry_at, tables_of_least, universe_of};
 
 use crate::sets::{has_port, has_state};
 use crate::tables::{Kind, State, Tables};
@@ -26,7 +26,7 @@ pub(crate) const UNUSED_KIND: Kind = Kind {
 
 // The tables of the least universe.
 fn least_tables() -> Tables
-    ensures value { result ≡ least_tables_of }
+    ensures value { result ≡ tables_of_least }
     ensures sound { Sound result }
 {
     let mut kinds = [UNUSED_KIND; 16];
@@ -44,7 +44,7 @@ fn least_tables() -> Tables
 impl Universe {
     // The least universe, for a place to read into: one type of one state, and no ports.
     pub fn least() -> Self
-        ensures { result.tables ≡ least_tables_of }
+        ensures { result.tables ≡ tables_of_least }
     {
         Universe::holding(least_tables())
     }

@@ -1,4 +1,4 @@
-use Rattle.std.proofs.Common.{sym, ◌∙◌, arith}
+use Rattle.std.proofs.Common.{sym, arith}
 use Rattle.std.proofs.lemmas.Result.{err_from_is_err_and}
 use Rattle.universe.proofs.KindTurns.{kind_refused, kind_begins, kind_stops, kind_more, kind_done}
 use Rattle.universe.proofs.reading.read_kind.Goals as goal

@@ -1,4 +1,4 @@
-use Rattle.std.proofs.Common.{leb, sym, ◌∙◌, arith}
+use Rattle.std.proofs.Common.{leb, sym, ◌∙◌}
 use Rattle.std.proofs.lemmas.Bool.{and_left, and_right, lt-leb}
 use Rattle.model.proofs.Searches.{any_none, any_more}
 use Rattle.universe.specs.Sets.{has}
