@@ -47,12 +47,12 @@ yes_no_of false = codes "no"
 
 -- how much stands, and the answer to whether it is gap-free
 unfoldable pub standing_line_of : ℕ → ℕ → List ℕ → List ℕ
-standing_line_of instances bindings gapFree =
-    codes "instances " ++ (decimal instances ++ (codes ", bindings " ++ (decimal bindings ++ (codes ", gap-free " ++ (gapFree ++ newline)))))
+standing_line_of instances bindings gap_free =
+    codes "instances " ++ (decimal instances ++ (codes ", bindings " ++ (decimal bindings ++ (codes ", gap-free " ++ (gap_free ++ newline)))))
 
 -- the last line: how much stands, and whether it is gap-free
 abbrev pub end_line_of : ℕ → ℕ → Bool → List ℕ
-end_line_of instances bindings gapFree = standing_line_of instances bindings (yes_no_of gapFree)
+end_line_of instances bindings gap_free = standing_line_of instances bindings (yes_no_of gap_free)
 
 -- the same for what a survey tells
 abbrev pub survey_line : Situation → List ℕ

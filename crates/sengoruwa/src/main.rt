@@ -1,7 +1,6 @@
 // The program: it reads its arguments and files, and prints what the library makes of them.
 #![tactic(auto)]
 
-use anyhow::anyhow;
 use console::describe::universe_report;
 use console::report::Report;
 use harbour::universe_file;
@@ -9,6 +8,7 @@ use model::order::Order;
 use options::{Fault, Flag, Reason, parse_options, plain_place};
 use piles::host_command_report;
 use scripts::{lines_report, pack_orders, pack_text, parse_orders, refusal_text, script_lines};
+use std::process::ExitCode;
 use std::{env, fs};
 
 const USAGE: &str = "usage:
@@ -37,10 +37,10 @@ s 2 2
 u 0 0 2
 ";
 
-// What the program ends with where it was called wrongly: the message is printed already.
+// Where the program was called wrongly: the message is printed, and the call counts as refused.
 fn misused(rt: &HostRuntime, message: &str) -> anyhow::Result<bool> {
     eprintln!(rt; "{message}")?;
-    Err(anyhow!("misused"))
+    Ok(true)
 }
 
 // Prints the report, and says whether the call was refused.
@@ -50,24 +50,28 @@ fn print_report(rt: &HostRuntime, report: Report) -> anyhow::Result<bool> {
     Ok(refused)
 }
 
-// The bytes of a file.
-fn read_file(rt: &HostRuntime, path: &str) -> anyhow::Result<Vec<u8>> {
+// The bytes of a file; none, with a message, where it cannot be read.
+fn read_file(rt: &HostRuntime, path: &str) -> anyhow::Result<Option<Vec<u8>>> {
     match fs::read(rt, path) {
-        Ok(bytes) => Ok(bytes),
+        Ok(bytes) => Ok(Some(bytes)),
         Err(_) => {
             eprintln!(rt; "cannot read {path}: name a file that can be read")?;
-            Err(anyhow!("misused"))
+            Ok(None)
         }
     }
 }
 
 fn show_universe(rt: &HostRuntime, path: &str) -> anyhow::Result<bool> {
-    let bytes = read_file(rt, path)?;
+    let Some(bytes) = read_file(rt, path)? else {
+        return Ok(true);
+    };
     print_report(rt, universe_report(rt.alloc(), bytes.as_slice())?)
 }
 
 fn show_lines(rt: &HostRuntime, path: &str) -> anyhow::Result<bool> {
-    let bytes = read_file(rt, path)?;
+    let Some(bytes) = read_file(rt, path)? else {
+        return Ok(true);
+    };
     let Some(lines) = script_lines(rt.alloc(), bytes.as_slice())? else {
         return misused(
             rt,
@@ -77,14 +81,16 @@ fn show_lines(rt: &HostRuntime, path: &str) -> anyhow::Result<bool> {
     print_report(rt, lines_report(rt.alloc(), lines.as_slice())?)
 }
 
-// The orders of a text file.
-fn read_orders(rt: &HostRuntime, path: &str) -> anyhow::Result<Vec<Order>> {
-    let text = read_file(rt, path)?;
+// The orders of a text file; none, with a message, where it has none.
+fn read_orders(rt: &HostRuntime, path: &str) -> anyhow::Result<Option<Vec<Order>>> {
+    let Some(text) = read_file(rt, path)? else {
+        return Ok(None);
+    };
     match parse_orders(rt.alloc(), text.as_slice())? {
-        Ok(orders) => Ok(orders),
+        Ok(orders) => Ok(Some(orders)),
         Err(line) => {
             eprintln!(rt; "line {line} of {path} writes no order: write it as in the usage text")?;
-            Err(anyhow!("misused"))
+            Ok(None)
         }
     }
 }
@@ -92,12 +98,14 @@ fn read_orders(rt: &HostRuntime, path: &str) -> anyhow::Result<Vec<Order>> {
 // Packs the orders and writes the script; an order that does not fit leaves the file as it was.
 fn pack(rt: &HostRuntime, orders: &str, path: &str) -> anyhow::Result<bool> {
     let heap = rt.alloc();
-    let orders = read_orders(rt, orders)?;
+    let Some(orders) = read_orders(rt, orders)? else {
+        return Ok(true);
+    };
     match pack_orders(heap, orders.as_slice())? {
         Ok(bytes) => {
             if fs::write(rt, path, bytes.as_slice()).is_err() {
                 eprintln!(rt; "cannot write {path}: name a file that can be written")?;
-                return Err(anyhow!("misused"));
+                return Ok(true);
             }
             rt.print(pack_text(heap, orders.len())?.as_str())?;
             Ok(false)
@@ -134,7 +142,7 @@ fn misused_option(rt: &HostRuntime, words: &[String], fault: Fault) -> anyhow::R
     let word = fault_word(words, fault);
     let text = fault_text(fault.reason);
     eprintln!(rt; "{word}: {text}")?;
-    Err(anyhow!("misused"))
+    Ok(true)
 }
 
 // The plain word that has so many plain words before it.
@@ -156,8 +164,12 @@ fn host(rt: &HostRuntime, words: &[String]) -> anyhow::Result<bool> {
     ) else {
         return misused(rt, USAGE);
     };
-    let universe = read_file(rt, universe)?;
-    let orders = read_orders(rt, orders)?;
+    let Some(universe) = read_file(rt, universe)? else {
+        return Ok(true);
+    };
+    let Some(orders) = read_orders(rt, orders)? else {
+        return Ok(true);
+    };
     print_report(
         rt,
         host_command_report(rt.alloc(), universe.as_slice(), options, orders.as_slice())?,
@@ -183,7 +195,7 @@ fn demo(rt: &HostRuntime) -> anyhow::Result<bool> {
     Ok(refused)
 }
 
-// Runs the command that the words name; true where it was refused.
+// Runs the command that the words name; true where it was refused or called wrongly.
 fn run(rt: &HostRuntime, words: &[String]) -> anyhow::Result<bool> {
     match words {
         [command] if command.as_str() == "demo" => demo(rt),
@@ -199,13 +211,13 @@ fn run(rt: &HostRuntime, words: &[String]) -> anyhow::Result<bool> {
     }
 }
 
-fn main(rt: HostRuntime) -> anyhow::Result<()> {
+fn main(rt: HostRuntime) -> anyhow::Result<ExitCode> {
     let mut words = Vec::new(rt.alloc());
     for word in env::args(&rt)?.skip(1) {
         words.push(word)?;
     }
     if run(&rt, words.as_slice())? {
-        return Err(anyhow!("refused"));
+        return Ok(ExitCode::FAILURE);
     }
-    Ok(())
+    Ok(ExitCode::SUCCESS)
 }

@@ -5,7 +5,7 @@ ghost use Rattle.universe.specs.Tables.{universe_of};
 ghost use Rattle.universe.proofs.Sounds.{sound};
 ghost use Rattle.hosts.specs.Survey.{bindings_of, instances_of};
 ghost use Rattle.hosts.specs.declared.refusal.Reason.TheVariants.{Full};
-ghost use Rattle.hosts.specs.Offences.{delete_offence_of, offence as offenceOf, refused_if};
+ghost use Rattle.hosts.specs.Offences.{delete_offence_of, offence as offence_of, refused_if};
 ghost use Rattle.hosts.specs.Answers.{illegal_or, full_test};
 ghost use Rattle.table.specs.Records.{Fit};
 ghost use Rattle.table.specs.Table.{Counted, Ranged, Rising, Sizes, applied, held_of, lawful_of, load_of, situation_of, table_rule, told};
@@ -105,7 +105,7 @@ impl Table {
 
     // The first offence of the order.
     fn offence(&self, order: Order) -> Option<Offence>
-        ensures { result ≡ offenceOf order (situation_of self.now.universe.tables self.now.records) }
+        ensures { result ≡ offence_of order (situation_of self.now.universe.tables self.now.records) }
     {
         match order {
             Order::Create { instance, kind } => create_offence(self, instance, kind),
@@ -137,7 +137,7 @@ impl Table {
 
     // The rule that refuses the order: its first offence, or that the limits leave no room for it.
     fn first_rule(&self, order: Order) -> Option<Reason>
-        ensures { result ≡ illegal_or (offenceOf order (situation_of self.now.universe.tables self.now.records)) (refused_if (full_test order (load_of 0 (held_of self.now.universe.tables self.now.records self.now.limits))) Full None) }
+        ensures { result ≡ illegal_or (offence_of order (situation_of self.now.universe.tables self.now.records)) (refused_if (full_test order (load_of 0 (held_of self.now.universe.tables self.now.records self.now.limits))) Full None) }
     {
         if let Some(offence) = self.offence(order) {
             return Some(Reason::Illegal(offence));
