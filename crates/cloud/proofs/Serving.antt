@@ -15,9 +15,9 @@ use Rattle.cloud.specs.Cloud.{CloudState, cloud_after, cloud_answer, cloud_rule,
 -- whether there is room does not hang on waits
 full_same : (o : Order) (h : Held) (w : ℕ) → full_test o (load_of 0 h) ≡ full_test o (load_of w h)
 full_same (Create z t) h w = refl
-full_same (Bind p x y) h w = refl
+full_same (Bind j) h w = refl
 full_same (Change z q) h w = refl
-full_same (Unbind p x y) h w = refl
+full_same (Unbind j) h w = refl
 full_same (Delete z) h w = refl
 
 -- the rule of the table is the decision of a host that is not watchful

@@ -6,7 +6,7 @@ use Rattle.hosts.specs.Answers.{Answer, Answered, Meaning}
 use Rattle.hosts.specs.Refusals.{reason_number}
 use Rattle.hosts.specs.Service.{Load}
 use Rattle.hosts.specs.Survey.{Situation, bindings_of, instances_of}
-use Rattle.text.specs.Written.{written}
+use Rattle.model.specs.Written.{written}
 
 -- the end of a text line
 abbrev pub newline : List ℕ

@@ -72,9 +72,9 @@ decision_expected o m p q = rw (p, q) (ruled_expected m.service.profile.watchful
 
 full_covers : (o : Order) (l : Load) → Covers o l → full_test o l ≡ true → ⊥
 full_covers (Create z t) l c e = omega (arith, eqb-true l.creations 0 e, c.0)
-full_covers (Bind p x y) l c e = omega (arith, eqb-true l.bindings 0 e, c.1)
+full_covers (Bind j) l c e = omega (arith, eqb-true l.bindings 0 e, c.1)
 full_covers (Change z q) l c e = false≢true e
-full_covers (Unbind p x y) l c e = false≢true e
+full_covers (Unbind j) l c e = false≢true e
 full_covers (Delete z) l c e = false≢true e
 
 -- a gap-free result is found gap-free

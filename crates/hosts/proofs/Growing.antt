@@ -11,16 +11,16 @@ growth_law s (Create z t) law e =
     let l = offence_none s law (Create z t) e in
     let m = count_law 32 256 s.universe s.config (Create z t) l.0 l.1 in
     (omega (arith, m.0), omega (arith, m.1))
-growth_law s (Bind p x y) law e =
-    let r = bind_range s law p x y e in
-    let m = count_law 32 256 s.universe s.config (Bind p x y) (offence_none s law (Bind p x y) e).0 (omega (arith, r.0, law.valid.ports)) r.1 r.2 in
+growth_law s (Bind j) law e =
+    let r = bind_range s law j e in
+    let m = count_law 32 256 s.universe s.config (Bind j) (offence_none s law (Bind j) e).0 (omega (arith, r.0, law.valid.ports)) r.1 r.2 in
     (omega (arith, m.0), omega (arith, m.1))
 growth_law s (Change z q) law e =
     let m = count_law 32 256 s.universe s.config (Change z q) (offence_none s law (Change z q) e).0 in
     (omega (arith, m.0), omega (arith, m.1))
-growth_law s (Unbind p x y) law e =
-    let r = unbind_range s law p x y e in
-    let m = count_law 32 256 s.universe s.config (Unbind p x y) (offence_none s law (Unbind p x y) e).0 (omega (arith, r.0, law.valid.ports)) r.1 r.2 in
+growth_law s (Unbind j) law e =
+    let r = unbind_range s law j e in
+    let m = count_law 32 256 s.universe s.config (Unbind j) (offence_none s law (Unbind j) e).0 (omega (arith, r.0, law.valid.ports)) r.1 r.2 in
     (omega (arith, m.0), omega (arith, m.1))
 growth_law s (Delete z) law e =
     let l = offence_none s law (Delete z) e in

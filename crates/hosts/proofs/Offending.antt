@@ -96,25 +96,25 @@ module _ (s : Situation) (law : Lawful s) where
       let b = or_parts (ltb 255 z) (leb u.types t) a.0 in
       let d = none_if (standing s z) _ None a.1 in
       ((d.0, leb-false u.types t b.1), omega (arith, ltb-false 255 z b.0))
-  offence_none (Bind p x y) h =
-      let a = none_if (strays s p x y) _ _ h in
-      let b = none_if (loose s x y) _ _ a.1 in
-      let d = none_if (unfit s p x y) _ _ b.1 in
-      let e = none_if (c.bound p x y) _ None d.1 in
-      let f = or_parts (eqb x y || not (ever_provides u p (c.inst x))) (not (ever_requires u p (c.inst y))) d.0 in
-      let g = or_parts (eqb x y) (not (ever_provides u p (c.inst x))) f.0 in
-      let r = not_strays p x y a.0 in
-      (record { apart = eqb-false x y g.0; provider = not-false _ g.1; requirer = not-false _ f.1; new = e.0 }, (r.1, r.2))
+  offence_none (Bind j) h =
+      let a = none_if (strays s j.port j.provider j.requirer) _ _ h in
+      let b = none_if (loose s j.provider j.requirer) _ _ a.1 in
+      let d = none_if (unfit s j.port j.provider j.requirer) _ _ b.1 in
+      let e = none_if (c.bound j.port j.provider j.requirer) _ None d.1 in
+      let f = or_parts (eqb j.provider j.requirer || not (ever_provides u j.port (c.inst j.provider))) (not (ever_requires u j.port (c.inst j.requirer))) d.0 in
+      let g = or_parts (eqb j.provider j.requirer) (not (ever_provides u j.port (c.inst j.provider))) f.0 in
+      let r = not_strays j.port j.provider j.requirer a.0 in
+      (record { apart = eqb-false j.provider j.requirer g.0; provider = not-false _ g.1; requirer = not-false _ f.1; new = e.0 }, (r.1, r.2))
   offence_none (Change z q) h =
       let a = none_if (ltb 255 z || ltb 7 q) _ _ h in
       let b = none_if (not (standing s z)) _ _ a.1 in
       let d = none_if (not (follows s z q)) _ None b.1 in
       (not-false _ d.0, omega (arith, ltb-false 255 z (or_parts (ltb 255 z) (ltb 7 q) a.0).0))
-  offence_none (Unbind p x y) h =
-      let a = none_if (strays s p x y) _ _ h in
-      let b = none_if (loose s x y) _ _ a.1 in
-      let d = none_if (not (c.bound p x y)) _ None b.1 in
-      let r = not_strays p x y a.0 in
+  offence_none (Unbind j) h =
+      let a = none_if (strays s j.port j.provider j.requirer) _ _ h in
+      let b = none_if (loose s j.provider j.requirer) _ _ a.1 in
+      let d = none_if (not (c.bound j.port j.provider j.requirer)) _ None b.1 in
+      let r = not_strays j.port j.provider j.requirer a.0 in
       (not-false _ d.0, (r.1, r.2))
   offence_none (Delete z) h =
       let a = none_if (ltb 255 z) _ _ h in
@@ -125,10 +125,10 @@ module _ (s : Situation) (law : Lawful s) where
   -- in a well-formed configuration, legal and in range: without offence
   pub none_offence : WellFormed u c → (o : Order) → Legal u c o → InRange o → offence o s ≡ None
   none_offence wf (Create z t) l low = if_none _ _ _ (or_from _ _ (le-ltb 255 z (omega arith)) (lt-leb u.types t l.1)) (if_none _ _ _ l.0 refl)
-  none_offence wf (Bind p x y) l low =
-      if_none _ _ _ (no_strays p x y (ever_provided u law.valid p (c.inst x) l.provider) low.0 low.1)
-      (if_none _ _ _ (no_loose x y (passes_stands (c.inst x) _ l.provider) (passes_stands (c.inst y) _ l.requirer))
-      (if_none _ _ _ (or_from _ _ (or_from _ _ (ne_eqb x y l.apart) (not_from_true _ l.provider)) (not_from_true _ l.requirer))
+  none_offence wf (Bind j) l low =
+      if_none _ _ _ (no_strays j.port j.provider j.requirer (ever_provided u law.valid j.port (c.inst j.provider) l.provider) low.0 low.1)
+      (if_none _ _ _ (no_loose j.provider j.requirer (passes_stands (c.inst j.provider) _ l.provider) (passes_stands (c.inst j.requirer) _ l.requirer))
+      (if_none _ _ _ (or_from _ _ (or_from _ _ (ne_eqb j.provider j.requirer l.apart) (not_from_true _ l.provider)) (not_from_true _ l.requirer))
       (if_none _ _ _ l.new refl)))
   none_offence wf (Change z q) l low =
       let h = passes_some (c.inst z) _ l in
@@ -137,9 +137,9 @@ module _ (s : Situation) (law : Lawful s) where
       if_none _ _ _ (or_from _ _ (le-ltb 255 z (omega arith)) (le-ltb 7 q (omega (arith, n.1, few))))
       (if_none _ _ _ (not_from_true _ (passes_stands (c.inst z) _ l))
       (if_none _ _ _ (not_from_true _ l) refl))
-  none_offence wf (Unbind p x y) l low =
-      if_none _ _ _ (no_strays p x y (law.bound p x y l).0 low.0 low.1)
-      (if_none _ _ _ (no_loose x y (passes_stands (c.inst x) _ (wf.providers p x y l)) (passes_stands (c.inst y) _ (wf.requirers p x y l)))
+  none_offence wf (Unbind j) l low =
+      if_none _ _ _ (no_strays j.port j.provider j.requirer (law.bound j.port j.provider j.requirer l).0 low.0 low.1)
+      (if_none _ _ _ (no_loose j.provider j.requirer (passes_stands (c.inst j.provider) _ (wf.providers j.port j.provider j.requirer l)) (passes_stands (c.inst j.requirer) _ (wf.requirers j.port j.provider j.requirer l)))
       (if_none _ _ _ (not_from_true _ l) refl))
   none_offence wf (Delete z) l low =
       if_none _ _ _ (le-ltb 255 z (omega arith))
@@ -161,13 +161,13 @@ module _ (s : Situation) (law : Lawful s) where
         inst = λ y out. create_off c z t y (apart y z out low) ∙ law.inst y out;
         bound = λ p x y b. law.bound p x y (sym (create_bound c z t p x y) ∙ b);
       }
-  lawful_after (Bind p x y) h =
+  lawful_after (Bind j) h =
       record {
         valid = law.valid;
-        inst = λ z out. bind_inst c p x y z ∙ law.inst z out;
-        bound = λ p' x' y' b. elim (bind_cases c p x y p' x' y' b) [
+        inst = λ z out. bind_inst c j z ∙ law.inst z out;
+        bound = λ p' x' y' b. elim (bind_cases c j p' x' y' b) [
           | inl was ↦ law.bound p' x' y' was
-          | inr new ↦ rw (new.0, new.1, new.2) (bind_range p x y h)
+          | inr new ↦ rw (new.0, new.1, new.2) (bind_range j h)
         ];
       }
   lawful_after (Change z q) h =
@@ -177,11 +177,11 @@ module _ (s : Situation) (law : Lawful s) where
         inst = λ y out. change_off c z q y (apart y z out low) ∙ law.inst y out;
         bound = λ p x y b. law.bound p x y (sym (change_bound c z q p x y) ∙ b);
       }
-  lawful_after (Unbind p x y) h =
+  lawful_after (Unbind j) h =
       record {
         valid = law.valid;
-        inst = λ z out. unbind_inst c p x y z ∙ law.inst z out;
-        bound = λ p' x' y' b. law.bound p' x' y' (unbind_was c p x y p' x' y' b);
+        inst = λ z out. unbind_inst c j z ∙ law.inst z out;
+        bound = λ p' x' y' b. law.bound p' x' y' (unbind_was c j p' x' y' b);
       }
   lawful_after (Delete z) h =
       record {

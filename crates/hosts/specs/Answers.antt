@@ -40,32 +40,32 @@ UpTo h (Err e) = e.height ≤ h
 
 abbrev pub is_create : Order → Bool
 is_create (Create z t) = true
-is_create (Bind p x y) = false
+is_create (Bind b) = false
 is_create (Change z q) = false
-is_create (Unbind p x y) = false
+is_create (Unbind b) = false
 is_create (Delete z) = false
 
 abbrev pub is_bind : Order → Bool
 is_bind (Create z t) = false
-is_bind (Bind p x y) = true
+is_bind (Bind b) = true
 is_bind (Change z q) = false
-is_bind (Unbind p x y) = false
+is_bind (Unbind b) = false
 is_bind (Delete z) = false
 
 -- changes and unbinds are tested for gaps
 abbrev pub is_tested : Order → Bool
 is_tested (Create z t) = false
-is_tested (Bind p x y) = false
+is_tested (Bind b) = false
 is_tested (Change z q) = true
-is_tested (Unbind p x y) = true
+is_tested (Unbind b) = true
 is_tested (Delete z) = false
 
 -- no allowance is left for the order
 abbrev pub full_test : Order → Load → Bool
 full_test (Create z t) l = l.creations == 0
-full_test (Bind p x y) l = l.bindings == 0
+full_test (Bind b) l = l.bindings == 0
 full_test (Change z q) l = false
-full_test (Unbind p x y) l = false
+full_test (Unbind b) l = false
 full_test (Delete z) l = false
 
 -- some instance has a gap in the result of the order

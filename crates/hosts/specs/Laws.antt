@@ -16,9 +16,9 @@ use Rattle.hosts.specs.Answers.{Meaning, Answer, Answered, reason_of, waited_onc
 -- every instance number of the order is at most 255
 abbrev pub InRange : Order → Type 0
 InRange (Create z t) = z < 256
-InRange (Bind p x y) = (x < 256) × (y < 256)
+InRange (Bind b) = (b.provider < 256) × (b.requirer < 256)
 InRange (Change z q) = z < 256
-InRange (Unbind p x y) = (x < 256) × (y < 256)
+InRange (Unbind b) = (b.provider < 256) × (b.requirer < 256)
 InRange (Delete z) = z < 256
 
 -- an order without offence is legal and in range; in a well-formed configuration every legal order in range has none

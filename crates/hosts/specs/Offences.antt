@@ -76,7 +76,7 @@ delete_offence_of s z =
 -- the first offence of the order, if there is one
 abbrev pub offence : Order → Situation → Option Offence
 offence (Create z t) s = create_offence_of s z t
-offence (Bind p x y) s = bind_offence_of s p x y
+offence (Bind b) s = bind_offence_of s b.port b.provider b.requirer
 offence (Change z q) s = change_offence_of s z q
-offence (Unbind p x y) s = unbind_offence_of s p x y
+offence (Unbind b) s = unbind_offence_of s b.port b.provider b.requirer
 offence (Delete z) s = delete_offence_of s z

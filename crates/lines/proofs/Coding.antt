@@ -12,9 +12,9 @@ use Rattle.lines.proofs.Packing.{both, same, small, fitting, cut, whole, parts, 
 -- the fields of an order tell it
 told : (o : Order) → order_of_fields (fields_of_order o) ≡ Ok o
 told (Create z t) = refl
-told (Bind p x y) = refl
+told (Bind j) = refl
 told (Change z q) = refl
-told (Unbind p x y) = refl
+told (Unbind j) = refl
 told (Delete z) = refl
 
 -- each of the values is zero
@@ -88,9 +88,9 @@ forth o x h =
 -- the operation number of an order fits
 operation_small : (o : Order) → (fields_of_order o).operation < 8
 operation_small (Create z t) = omega arith
-operation_small (Bind p x y) = omega arith
+operation_small (Bind j) = omega arith
 operation_small (Change z q) = omega arith
-operation_small (Unbind p x y) = omega arith
+operation_small (Unbind j) = omega arith
 operation_small (Delete z) = omega arith
 
 -- a line comes back from its order

@@ -51,9 +51,9 @@ fields operation first second port kind state =
 -- the fields that tell an order: operation, first instance, second instance, port, type and state
 abbrev pub fields_of_order : Order → Fields
 fields_of_order (Create z t) = fields 1 z 0 0 t 0
-fields_of_order (Bind p x y) = fields 2 x y p 0 0
+fields_of_order (Bind b) = fields 2 b.provider b.requirer b.port 0 0
 fields_of_order (Change z q) = fields 3 z 0 0 0 q
-fields_of_order (Unbind p x y) = fields 4 x y p 0 0
+fields_of_order (Unbind b) = fields 4 b.provider b.requirer b.port 0 0
 fields_of_order (Delete z) = fields 5 z 0 0 0 0
 
 -- all of the values are zero

@@ -82,15 +82,15 @@ module _ (n : ℕ) (c : Config) (z : ℕ) where
 -- how each legal order moves the counts
 pub count_law : CountLaw
 count_law m n u c (Create z t) l = λ low. (create_counts n c z t low l.0, bindings_same m n c (result_of (Create z t) c) (create_bound c z t))
-count_law m n u c (Bind p x y) l = λ lp lx ly. (
-  instances_same n c (result_of (Bind p x y) c) (λ z. ap stands (bind_inst c p x y z)),
-  bindings_more m n c (result_of (Bind p x y) c) p x y lp lx ly (bind_off c p x y) l.new (bind_at c p x y),
+count_law m n u c (Bind j) l = λ lp lx ly. (
+  instances_same n c (result_of (Bind j) c) (λ z. ap stands (bind_inst c j z)),
+  bindings_more m n c (result_of (Bind j) c) j.port j.provider j.requirer lp lx ly (bind_off c j) l.new (bind_at c j),
 )
 count_law m n u c (Change z q) l = (change_counts n c z q, bindings_same m n c (result_of (Change z q) c) (change_bound c z q))
-count_law m n u c (Unbind p x y) l = λ lp lx ly. (
-  instances_same n c (result_of (Unbind p x y) c) (λ z. ap stands (unbind_inst c p x y z)),
-  bindings_more m n (result_of (Unbind p x y) c) c p x y lp lx ly
-      (λ p' x' y' ne. sym (unbind_off c p x y p' x' y' ne)) (unbind_at c p x y) l,
+count_law m n u c (Unbind j) l = λ lp lx ly. (
+  instances_same n c (result_of (Unbind j) c) (λ z. ap stands (unbind_inst c j z)),
+  bindings_more m n (result_of (Unbind j) c) c j.port j.provider j.requirer lp lx ly
+      (λ p' x' y' ne. sym (unbind_off c j p' x' y' ne)) (unbind_at c j) l,
 )
 count_law m n u c (Delete z) l = λ low. (
   delete_counts n c z low l.stands,

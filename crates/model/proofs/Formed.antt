@@ -70,10 +70,10 @@ formed_law u c (Create z t) ok wf (free, low) =
     (λ p x y b.
     let e = ends u c wf p x y (sym (create_bound c z t p x y) ∙ b) in
     (e.0, create_keeps c z t free _ x e.1, create_keeps c z t free _ y e.2))
-formed_law u c (Bind p x y) ok wf l =
-    let d : Config = result_of (Bind p x y) c in
-    from_ends u d (λ z h e. wf.pairs z h (sym (bind_inst c p x y z) ∙ e)) (λ p' x' y' b.
-    ends_at u c d p' x' y' (bind_inst c p x y x') (bind_inst c p x y y') (elim (bind_cases c p x y p' x' y' b) [
+formed_law u c (Bind j) ok wf l =
+    let d : Config = result_of (Bind j) c in
+    from_ends u d (λ z h e. wf.pairs z h (sym (bind_inst c j z) ∙ e)) (λ p' x' y' b.
+    ends_at u c d p' x' y' (bind_inst c j x') (bind_inst c j y') (elim (bind_cases c j p' x' y' b) [
       | inl was ↦ ends u c wf p' x' y' was
       | inr new ↦ rw (new.0, new.1, new.2) (l.apart, l.provider, l.requirer)
     ]))
@@ -87,10 +87,10 @@ formed_law u c (Change z q) ok wf l =
     let e = ends u c wf p x y (sym (change_bound c z q p x y) ∙ b) in
     let keeps = λ (f : ℕ → ℕ → ℕ → Bool). change_kind c z q (λ k. any (λ q. f k q p) (u.states k)) in
     (e.0, keeps u.provides x ∙ e.1, keeps u.requires y ∙ e.2))
-formed_law u c (Unbind p x y) ok wf l =
-    let d : Config = result_of (Unbind p x y) c in
-    from_ends u d (λ z h e. wf.pairs z h (sym (unbind_inst c p x y z) ∙ e)) (λ p' x' y' b.
-    ends_at u c d p' x' y' (unbind_inst c p x y x') (unbind_inst c p x y y') (ends u c wf p' x' y' (unbind_was c p x y p' x' y' b)))
+formed_law u c (Unbind j) ok wf l =
+    let d : Config = result_of (Unbind j) c in
+    from_ends u d (λ z h e. wf.pairs z h (sym (unbind_inst c j z) ∙ e)) (λ p' x' y' b.
+    ends_at u c d p' x' y' (unbind_inst c j x') (unbind_inst c j y') (ends u c wf p' x' y' (unbind_was c j p' x' y' b)))
 formed_law u c (Delete z) ok wf l =
     let d : Config = result_of (Delete z) c in
     from_ends u d

@@ -56,8 +56,8 @@ opening_law u c (Create z' t) ok free l z p g =
       | inl e ↦ both_ways (u.requires t 0 p) (ok.initial t p) (requires_at u _ z z' p _ e (create_at c z' t) g)
       | inr ne ↦ no_gap u c _ z p free (create_off c z' t z ne) (λ x b v. (create_bound c z' t p x z ∙ b, create_keeps c z' t l.0 _ x v)) g
     ]
-opening_law u c (Bind p' x y) ok free l z p g =
-    no_gap u c _ z p free (bind_inst c p' x y z) (λ x' b v. (bind_keeps c p' x y p x' z b, ap (provided u p) (bind_inst c p' x y x') ∙ v)) g
+opening_law u c (Bind j) ok free l z p g =
+    no_gap u c _ z p free (bind_inst c j z) (λ x' b v. (bind_keeps c j p x' z b, ap (provided u p) (bind_inst c j x') ∙ v)) g
 opening_law u c (Change z' q) ok free l z p g =
     elim (cases_eq z z') [
       | inl e ↦ inl e
@@ -66,18 +66,18 @@ opening_law u c (Change z' q) ok free l z p g =
         | inr goes_on ↦ absurd (no_gap u c _ z p free (change_off c z' q z ne) (change_kept u c z' q z p goes_on) g)
       ]
     ]
-opening_law u c (Unbind p' x y) ok free l z p g =
-    elim (cases_eq z y) [
-      | inl ez ↦ elim (cases_eq p p') [
+opening_law u c (Unbind j) ok free l z p g =
+    elim (cases_eq z j.requirer) [
+      | inl ez ↦ elim (cases_eq p j.port) [
         | inl ep ↦ (ez, ep)
         | inr np ↦ absurd (elsewhere (λ e. np e.1))
       ]
       | inr nz ↦ absurd (elsewhere (λ e. nz e.0))
     ]
   where
-    elsewhere : ((z ≡ y) × (p ≡ p') → ⊥) → ⊥
-    elsewhere ne = no_gap u c _ z p free (unbind_inst c p' x y z) (λ x' b v.
-        (unbind_off c p' x y p x' z (λ e. ne (e.2, e.0)) ∙ b, ap (provided u p) (unbind_inst c p' x y x') ∙ v)) g
+    elsewhere : ((z ≡ j.requirer) × (p ≡ j.port) → ⊥) → ⊥
+    elsewhere ne = no_gap u c _ z p free (unbind_inst c j z) (λ x' b v.
+        (unbind_off c j p x' z (λ e. ne (e.2, e.0)) ∙ b, ap (provided u p) (unbind_inst c j x') ∙ v)) g
 opening_law u c (Delete z') ok free l z p g =
     elim (cases_eq z z') [
       | inl e ↦ false≢true (requires_at u _ z z' p _ e (delete_at c z') g)

@@ -2,6 +2,7 @@
 use Rattle.std.proofs.Common.{◌≡◌, ℕ, Bool, true, false, not, ◌&&◌, ◌||◌, eqb, ◌≢◌, ◌⊎◌, Some, None, Option, sym, refl, ap, ◌∙◌, inl, inr}
 use mathlib.Core.Bool.{and-true, or-false, false≢true}
 use Rattle.std.proofs.lemmas.Bool.{and_parts, and_right, both_ways, cases_eq, eq-eqb, eqb-true, ne_eqb, not_from_true, not-true, or_cases, or_left, or_right}
+use Rattle.model.specs.declared.binding.Binding.{Binding}
 use Rattle.model.specs.declared.pair.Pair.{Pair}
 use Rattle.model.specs.declared.order.Order.TheVariants.{Create, Bind, Change, Unbind, Delete}
 use Rattle.model.specs.Config.{Config, moved, pair, passes, stands}
@@ -61,33 +62,33 @@ module _ (c : Config) (z t : ℕ) where
           both_ways (stands (c.inst z)) free (ap (λ y. stands (c.inst y)) (sym e) ∙ ap stands s.1)
 
 -- bind: the new binding stands, and all else stays
-module _ (c : Config) (p x y : ℕ) where
-  pub bind_inst : (z : ℕ) → (result_of (Bind p x y) c).inst z ≡ c.inst z
+module _ (c : Config) (j : Binding) where
+  pub bind_inst : (z : ℕ) → (result_of (Bind j) c).inst z ≡ c.inst z
   unfolding result_of
   bind_inst z = refl
 
-  pub bind_bound : (p' x' y' : ℕ) → (result_of (Bind p x y) c).bound p' x' y' ≡ (c.bound p' x' y' || same p x y p' x' y')
+  pub bind_bound : (p' x' y' : ℕ) → (result_of (Bind j) c).bound p' x' y' ≡ (c.bound p' x' y' || same j.port j.provider j.requirer p' x' y')
   unfolding result_of
   bind_bound p' x' y' = refl
 
-  pub bind_at : (result_of (Bind p x y) c).bound p x y ≡ true
-  bind_at = bind_bound p x y ∙ or_right (c.bound p x y) _ (same_self p x y)
+  pub bind_at : (result_of (Bind j) c).bound j.port j.provider j.requirer ≡ true
+  bind_at = bind_bound j.port j.provider j.requirer ∙ or_right (c.bound j.port j.provider j.requirer) _ (same_self j.port j.provider j.requirer)
 
-  pub bind_off : (p' x' y' : ℕ) → (Same p x y p' x' y' → ⊥) →
-      (result_of (Bind p x y) c).bound p' x' y' ≡ c.bound p' x' y'
-  bind_off p' x' y' ne = bind_bound p' x' y' ∙ rw (same_false p x y p' x' y' ne) (or-false (c.bound p' x' y'))
+  pub bind_off : (p' x' y' : ℕ) → (Same j.port j.provider j.requirer p' x' y' → ⊥) →
+      (result_of (Bind j) c).bound p' x' y' ≡ c.bound p' x' y'
+  bind_off p' x' y' ne = bind_bound p' x' y' ∙ rw (same_false j.port j.provider j.requirer p' x' y' ne) (or-false (c.bound p' x' y'))
 
   -- what was bound stays bound
-  pub bind_keeps : (p' x' y' : ℕ) → c.bound p' x' y' ≡ true → (result_of (Bind p x y) c).bound p' x' y' ≡ true
+  pub bind_keeps : (p' x' y' : ℕ) → c.bound p' x' y' ≡ true → (result_of (Bind j) c).bound p' x' y' ≡ true
   bind_keeps p' x' y' b = bind_bound p' x' y' ∙ or_left (c.bound p' x' y') _ b
 
   -- what is bound was bound or is the new binding
-  pub bind_cases : (p' x' y' : ℕ) → (result_of (Bind p x y) c).bound p' x' y' ≡ true →
-      (c.bound p' x' y' ≡ true) ⊎ Same p x y p' x' y'
+  pub bind_cases : (p' x' y' : ℕ) → (result_of (Bind j) c).bound p' x' y' ≡ true →
+      (c.bound p' x' y' ≡ true) ⊎ Same j.port j.provider j.requirer p' x' y'
   bind_cases p' x' y' b =
       elim (or_cases (c.bound p' x' y') _ (sym (bind_bound p' x' y') ∙ b)) [
         | inl was ↦ inl was
-        | inr new ↦ inr (same_true p x y p' x' y' new)
+        | inr new ↦ inr (same_true j.port j.provider j.requirer p' x' y' new)
       ]
 
 -- change: the instance is in the new state of its type, and all else stays
@@ -120,24 +121,24 @@ module _ (c : Config) (z q : ℕ) where
       of_moved (Some h) = refl
 
 -- unbind: the binding stands no more, and all else stays
-module _ (c : Config) (p x y : ℕ) where
-  pub unbind_inst : (z : ℕ) → (result_of (Unbind p x y) c).inst z ≡ c.inst z
+module _ (c : Config) (j : Binding) where
+  pub unbind_inst : (z : ℕ) → (result_of (Unbind j) c).inst z ≡ c.inst z
   unfolding result_of
   unbind_inst z = refl
 
-  pub unbind_bound : (p' x' y' : ℕ) → (result_of (Unbind p x y) c).bound p' x' y' ≡ (c.bound p' x' y' && not (same p x y p' x' y'))
+  pub unbind_bound : (p' x' y' : ℕ) → (result_of (Unbind j) c).bound p' x' y' ≡ (c.bound p' x' y' && not (same j.port j.provider j.requirer p' x' y'))
   unfolding result_of
   unbind_bound p' x' y' = refl
 
-  pub unbind_at : (result_of (Unbind p x y) c).bound p x y ≡ false
-  unbind_at = unbind_bound p x y ∙ and_right (c.bound p x y) _ (not_from_true _ (same_self p x y))
+  pub unbind_at : (result_of (Unbind j) c).bound j.port j.provider j.requirer ≡ false
+  unbind_at = unbind_bound j.port j.provider j.requirer ∙ and_right (c.bound j.port j.provider j.requirer) _ (not_from_true _ (same_self j.port j.provider j.requirer))
 
-  pub unbind_off : (p' x' y' : ℕ) → (Same p x y p' x' y' → ⊥) →
-      (result_of (Unbind p x y) c).bound p' x' y' ≡ c.bound p' x' y'
-  unbind_off p' x' y' ne = unbind_bound p' x' y' ∙ rw (same_false p x y p' x' y' ne) (and-true (c.bound p' x' y'))
+  pub unbind_off : (p' x' y' : ℕ) → (Same j.port j.provider j.requirer p' x' y' → ⊥) →
+      (result_of (Unbind j) c).bound p' x' y' ≡ c.bound p' x' y'
+  unbind_off p' x' y' ne = unbind_bound p' x' y' ∙ rw (same_false j.port j.provider j.requirer p' x' y' ne) (and-true (c.bound p' x' y'))
 
   -- what is bound was bound
-  pub unbind_was : (p' x' y' : ℕ) → (result_of (Unbind p x y) c).bound p' x' y' ≡ true → c.bound p' x' y' ≡ true
+  pub unbind_was : (p' x' y' : ℕ) → (result_of (Unbind j) c).bound p' x' y' ≡ true → c.bound p' x' y' ≡ true
   unbind_was p' x' y' b = (and_parts (c.bound p' x' y') _ (sym (unbind_bound p' x' y') ∙ b)).0
 
 -- delete: the instance stands no more, nor do the bindings of which it is the requirer, and all else stays

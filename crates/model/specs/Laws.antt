@@ -22,10 +22,10 @@ FormedLaw = (u : Universe) (c : Config) (o : Order) → Valid u → WellFormed u
 -- that it stops providing; an unbind at its requirer and port; the others nowhere
 abbrev pub Opens : Universe → Config → Order → ℕ → ℕ → Type 0
 Opens u c (Create z' t) z p = ⊥
-Opens u c (Bind p' x y) z p = ⊥
+Opens u c (Bind b) z p = ⊥
 Opens u c (Change z' q) z p =
     (z ≡ z') ⊎ ((c.bound p z' z && (provided u p (c.inst z') && not (provided u p (moved (c.inst z') q)))) ≡ true)
-Opens u c (Unbind p' x y) z p = (z ≡ y) × (p ≡ p')
+Opens u c (Unbind b) z p = (z ≡ b.requirer) × (p ≡ b.port)
 Opens u c (Delete z') z p = ⊥
 
 -- from a gap-free configuration, a legal order leads to gaps only where it can open one
@@ -59,12 +59,12 @@ PrefixLaw =
 abbrev pub Moves : ℕ → ℕ → Config → Order → Type 0
 Moves m n c (Create z t) =
     z < n → (instances n (result_of (Create z t) c) ≡ instances n c + 1) × (bindings m n (result_of (Create z t) c) ≡ bindings m n c)
-Moves m n c (Bind p x y) =
-    p < m → x < n → y < n → (instances n (result_of (Bind p x y) c) ≡ instances n c) × (bindings m n (result_of (Bind p x y) c) ≡ bindings m n c + 1)
+Moves m n c (Bind b) =
+    b.port < m → b.provider < n → b.requirer < n → (instances n (result_of (Bind b) c) ≡ instances n c) × (bindings m n (result_of (Bind b) c) ≡ bindings m n c + 1)
 Moves m n c (Change z q) =
     (instances n (result_of (Change z q) c) ≡ instances n c) × (bindings m n (result_of (Change z q) c) ≡ bindings m n c)
-Moves m n c (Unbind p x y) =
-    p < m → x < n → y < n → (instances n (result_of (Unbind p x y) c) ≡ instances n c) × (bindings m n c ≡ bindings m n (result_of (Unbind p x y) c) + 1)
+Moves m n c (Unbind b) =
+    b.port < m → b.provider < n → b.requirer < n → (instances n (result_of (Unbind b) c) ≡ instances n c) × (bindings m n c ≡ bindings m n (result_of (Unbind b) c) + 1)
 Moves m n c (Delete z) =
     z < n → (instances n c ≡ instances n (result_of (Delete z) c) + 1) × (bindings m n (result_of (Delete z) c) ≤ bindings m n c)
 

@@ -3,6 +3,7 @@ pub mod Universe
 pub mod Config
 pub mod Gaps
 pub mod Orders
+pub mod Written
 pub mod Runs
 pub mod Bounded
 pub mod Counts

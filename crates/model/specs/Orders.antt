@@ -21,9 +21,9 @@ pub record Deletable (c : Config) (z : ℕ) : Type 0 where
 -- the order is legal
 abbrev pub Legal : Universe → Config → Order → Type 0
 Legal u c (Create z t) = (stands (c.inst z) ≡ false) × (t < u.types)
-Legal u c (Bind p x y) = Bindable u c p x y
+Legal u c (Bind b) = Bindable u c b.port b.provider b.requirer
 Legal u c (Change z q) = passes (c.inst z) (λ h. u.next h.kind h.state q) ≡ true
-Legal u c (Unbind p x y) = c.bound p x y ≡ true
+Legal u c (Unbind b) = c.bound b.port b.provider b.requirer ≡ true
 Legal u c (Delete z) = Deletable c z
 
 -- the function f, but a at z
@@ -37,7 +37,7 @@ same p x y p' x' y' = p == p' && x == x' && y == y'
 -- what the order makes of the configuration
 unfoldable pub result_of : Order → Config → Config
 result_of (Create z t) c = record { inst = put c.inst z (Some (pair t 0)); bound = c.bound }
-result_of (Bind p x y) c = record { inst = c.inst; bound = λ p' x' y'. c.bound p' x' y' || same p x y p' x' y' }
+result_of (Bind b) c = record { inst = c.inst; bound = λ p' x' y'. c.bound p' x' y' || same b.port b.provider b.requirer p' x' y' }
 result_of (Change z q) c = record { inst = put c.inst z (moved (c.inst z) q); bound = c.bound }
-result_of (Unbind p x y) c = record { inst = c.inst; bound = λ p' x' y'. c.bound p' x' y' && not (same p x y p' x' y') }
+result_of (Unbind b) c = record { inst = c.inst; bound = λ p' x' y'. c.bound p' x' y' && not (same b.port b.provider b.requirer p' x' y') }
 result_of (Delete z) c = record { inst = put c.inst z None; bound = λ p' x' y'. c.bound p' x' y' && not (y' == z) }

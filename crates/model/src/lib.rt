@@ -3,6 +3,7 @@
 
 ghost use Rattle.model.specs.Laws.{CountLaw, EmptyLaw, FormedLaw, OpeningLaw, PrefixLaw, RunLaw, SearchLaw};
 
+pub mod binding;
 pub mod order;
 pub mod pair;
 

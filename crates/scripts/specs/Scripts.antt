@@ -4,7 +4,8 @@ use Rattle.std.specs.Option.{option_map}
 use Rattle.model.specs.declared.order.Order.{Order}
 use Rattle.lines.specs.declared.refusal.LineRefusal.{LineRefusal}
 use Rattle.lines.specs.Line.{line_number, decoded, encoded}
-use Rattle.text.specs.Written.{written, order_of}
+use Rattle.model.specs.Written.{written}
+use Rattle.text.specs.Written.{order_of}
 use Rattle.scripts.specs.declared.PackFault.{PackFault}
 
 -- the end of a text line

@@ -39,18 +39,18 @@ pub able : (o : Order) (h : Held) → Lawful h.situation → h.limits.bindings �
 able (Create z t) h law room none =
     let l = offence_none h.situation law (Create z t) (no_offence (Create z t) h none) in
     (l.1, omega (arith, l.0.1, law.valid.types.1), l.0.0)
-able (Bind p x y) h law room none =
-    let e = no_offence (Bind p x y) h none in
-    let r = bind_range h.situation law p x y e in
-    let l = offence_none h.situation law (Bind p x y) e in
-    (omega (arith, r.0, law.valid.ports), r.1, r.2, l.0.new, omega (arith, eqb-false _ _ (not_full (Bind p x y) h none)))
+able (Bind j) h law room none =
+    let e = no_offence (Bind j) h none in
+    let r = bind_range h.situation law j e in
+    let l = offence_none h.situation law (Bind j) e in
+    (omega (arith, r.0, law.valid.ports), r.1, r.2, l.0.new, omega (arith, eqb-false _ _ (not_full (Bind j) h none)))
 able (Change z q) h law room none =
     let r = change_range h.situation law z q (no_offence (Change z q) h none) in
     (r.0, omega (arith, r.1))
-able (Unbind p x y) h law room none =
-    let e = no_offence (Unbind p x y) h none in
-    let r = unbind_range h.situation law p x y e in
-    (omega (arith, r.0, law.valid.ports), r.1, r.2, (offence_none h.situation law (Unbind p x y) e).0)
+able (Unbind j) h law room none =
+    let e = no_offence (Unbind j) h none in
+    let r = unbind_range h.situation law j e in
+    (omega (arith, r.0, law.valid.ports), r.1, r.2, (offence_none h.situation law (Unbind j) e).0)
 able (Delete z) h law room none =
     let l = offence_none h.situation law (Delete z) (no_offence (Delete z) h none) in
     (l.1, l.0.stands)

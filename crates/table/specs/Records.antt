@@ -38,7 +38,7 @@ pub record Done (o : Order) (b a : Records) : Type 0 where
 -- what the work of an order asks: numbers in range, room, and what it makes or ends not there or there
 abbrev pub Able : Config → Order → Type 0
 Able c (Create z t) = (z < 256) × (t < 256) × (stands (c.inst z) ≡ false)
-Able c (Bind p x y) = (p < 32) × (x < 256) × (y < 256) × (c.bound p x y ≡ false) × (bindings 32 256 c < 2048)
+Able c (Bind b) = (b.port < 32) × (b.provider < 256) × (b.requirer < 256) × (c.bound b.port b.provider b.requirer ≡ false) × (bindings 32 256 c < 2048)
 Able c (Change z q) = (z < 256) × (q < 256)
-Able c (Unbind p x y) = (p < 32) × (x < 256) × (y < 256) × (c.bound p x y ≡ true)
+Able c (Unbind b) = (b.port < 32) × (b.provider < 256) × (b.requirer < 256) × (c.bound b.port b.provider b.requirer ≡ true)
 Able c (Delete z) = (z < 256) × (stands (c.inst z) ≡ true)

@@ -4,7 +4,8 @@ use Rattle.std.proofs.lemmas.Fmt.{decimal_is_IsNumeral}
 use Rattle.std.proofs.lemmas.Bool.{eqb-true, lt-ltb, ltb-true, cond-true, cond-false, cases_Bool, and_parts, and_from}
 use Rattle.model.specs.declared.order.Order.{Order}
 use Rattle.model.specs.declared.order.Order.TheVariants.{Create, Bind, Change, Unbind, Delete}
-use Rattle.text.specs.Written.{written, number_of, two, three, of_one, of_two, of_three, lettered, letter_of_line, ordered, order_of}
+use Rattle.model.specs.Written.{written}
+use Rattle.text.specs.Written.{number_of, two, three, of_one, of_two, of_three, lettered, letter_of_line, ordered, order_of}
 use Rattle.text.specs.Law.{letter, numbers, Spells, SpellsAll, Writes, AllNarrow, Narrow, WrittenLaw}
 use Rattle.text.proofs.Reading.{never, number_reads, number_read, two_reads, two_read, three_reads, three_read}
 
@@ -86,9 +87,9 @@ order_read l ds bs e = ap order_of e ∙ ap (λ n. ordered n ds) (letter_read l 
 
 pub read : (bs : List ℕ) (o : Order) → Writes bs o → Narrow o → order_of bs ≡ Some o
 read bs (Create z t) w h = order_read 99 w.0 bs w.1 ∙ ap (of_two Create) (two_read w.0 z t w.2 h)
-read bs (Bind p x y) w h = order_read 98 w.0 bs w.1 ∙ ap (of_three Bind) (three_read w.0 p x y w.2 h)
+read bs (Bind j) w h = order_read 98 w.0 bs w.1 ∙ ap (of_three Bind) (three_read w.0 j.port j.provider j.requirer w.2 h)
 read bs (Change z q) w h = order_read 115 w.0 bs w.1 ∙ ap (of_two Change) (two_read w.0 z q w.2 h)
-read bs (Unbind p x y) w h = order_read 117 w.0 bs w.1 ∙ ap (of_three Unbind) (three_read w.0 p x y w.2 h)
+read bs (Unbind j) w h = order_read 117 w.0 bs w.1 ∙ ap (of_three Unbind) (three_read w.0 j.port j.provider j.requirer w.2 h)
 read bs (Delete z) w h = order_read 100 w.0 bs w.1 ∙ ap (of_one Delete) (number_read w.0 z w.2 h.0)
 
 -- a written number is a numeral of it
@@ -97,9 +98,9 @@ spells n h = let p = decimal_is_IsNumeral n (omega arith) in record { numeral = 
 
 pub writes : (o : Order) → Narrow o → Writes (written o) o
 writes (Create z t) h = (_, refl, (_, _, refl, spells z h.0, spells t h.1.0))
-writes (Bind p x y) h = (_, refl, (_, _, refl, spells p h.0, (_, _, refl, spells x h.1.0, spells y h.1.1.0)))
+writes (Bind j) h = (_, refl, (_, _, refl, spells j.port h.0, (_, _, refl, spells j.provider h.1.0, spells j.requirer h.1.1.0)))
 writes (Change z q) h = (_, refl, (_, _, refl, spells z h.0, spells q h.1.0))
-writes (Unbind p x y) h = (_, refl, (_, _, refl, spells p h.0, (_, _, refl, spells x h.1.0, spells y h.1.1.0)))
+writes (Unbind j) h = (_, refl, (_, _, refl, spells j.port h.0, (_, _, refl, spells j.provider h.1.0, spells j.requirer h.1.1.0)))
 writes (Delete z) h = (_, refl, spells z h.0)
 
 pub written_law : WrittenLaw

@@ -3,22 +3,23 @@ use Rattle.std.specs.Prelude.{◌≡◌, ℕ, ◌^◌, ◌<◌, List, [], ◌∷
 use Rattle.std.specs.Str.Parse.{IsNumeral, digits_value}
 use Rattle.model.specs.declared.order.Order.{Order}
 use Rattle.model.specs.declared.order.Order.TheVariants.{Create, Bind, Change, Unbind, Delete}
-use Rattle.text.specs.Written.{written, order_of}
+use Rattle.model.specs.Written.{written}
+use Rattle.text.specs.Written.{order_of}
 
 -- the letter of an order
 abbrev pub letter : Order → List ℕ
 letter (Create z t) = codes "c"
-letter (Bind p x y) = codes "b"
+letter (Bind b) = codes "b"
 letter (Change z q) = codes "s"
-letter (Unbind p x y) = codes "u"
+letter (Unbind b) = codes "u"
 letter (Delete z) = codes "d"
 
 -- the numbers of an order
 abbrev pub numbers : Order → List ℕ
 numbers (Create z t) = z ∷ t ∷ []
-numbers (Bind p x y) = p ∷ x ∷ y ∷ []
+numbers (Bind b) = b.port ∷ b.provider ∷ b.requirer ∷ []
 numbers (Change z q) = z ∷ q ∷ []
-numbers (Unbind p x y) = p ∷ x ∷ y ∷ []
+numbers (Unbind b) = b.port ∷ b.provider ∷ b.requirer ∷ []
 numbers (Delete z) = z ∷ []
 
 -- the bytes are one decimal digit or more, and their value is n

@@ -3,22 +3,6 @@ use Rattle.std.specs.Prelude.{ℕ, suc, ◌+◌, ◌-◌, ◌*◌, ◌^◌, Bool
 use Rattle.model.specs.declared.order.Order.{Order}
 use Rattle.model.specs.declared.order.Order.TheVariants.{Create, Bind, Change, Unbind, Delete}
 
--- two numbers with a blank between them
-abbrev pub pair_text : ℕ → ℕ → List ℕ
-pair_text a b = decimal a ++ (codes " " ++ decimal b)
-
--- three numbers with blanks between them
-abbrev pub triple_text : ℕ → ℕ → ℕ → List ℕ
-triple_text a b c = decimal a ++ (codes " " ++ pair_text b c)
-
--- the written form of an order
-abbrev pub written : Order → List ℕ
-written (Create z t) = codes "c " ++ pair_text z t
-written (Bind p x y) = codes "b " ++ triple_text p x y
-written (Change z q) = codes "s " ++ pair_text z q
-written (Unbind p x y) = codes "u " ++ triple_text p x y
-written (Delete z) = codes "d " ++ decimal z
-
 -- a byte from 0 to 9
 abbrev pub digit_test : ℕ → Bool
 digit_test d = nat_le 48 d && nat_le d 57
