@@ -2,6 +2,7 @@
 use Rattle.std.proofs.Common.{◌≡◌, ℕ, ◌<◌, ◌≤◌, Bool, true, false, not, ◌||◌, eqb, ltb, leb, ◌≢◌, None, Option, sym, refl, ap, ◌∙◌, inl, inr, arith}
 use mathlib.Core.Bool.{false≢true}
 use Rattle.std.proofs.lemmas.Bool.{and_from, both_ways, cases_eq, cases_lt, eqb-false, le-ltb, leb-false, lt-leb, ltb-false, ne_eqb, not-false, not_from_true, or_from, or_parts}
+use Rattle.model.specs.declared.binding.Binding.{Binding}
 use Rattle.model.specs.declared.pair.Pair.{Pair}
 use Rattle.model.specs.declared.order.Order.{Order}
 use Rattle.model.specs.declared.order.Order.TheVariants.{Create, Bind, Change, Unbind, Delete}
@@ -65,11 +66,11 @@ module _ (s : Situation) (law : Lawful s) where
   no_loose x y ex ey = not_from_true _ (and_from _ _ ex ey)
 
   -- the ends and the port of a binding without offence
-  pub bind_range : (p x y : ℕ) → offence (Bind p x y) s ≡ None → (p < u.ports) × (x < 256) × (y < 256)
-  bind_range p x y h = not_strays p x y (none_if (strays s p x y) _ _ h).0
+  pub bind_range : (j : Binding) → offence (Bind j) s ≡ None → (j.port < u.ports) × (j.provider < 256) × (j.requirer < 256)
+  bind_range j h = not_strays j.port j.provider j.requirer (none_if (strays s j.port j.provider j.requirer) _ _ h).0
 
-  pub unbind_range : (p x y : ℕ) → offence (Unbind p x y) s ≡ None → (p < u.ports) × (x < 256) × (y < 256)
-  unbind_range p x y h = not_strays p x y (none_if (strays s p x y) _ _ h).0
+  pub unbind_range : (j : Binding) → offence (Unbind j) s ≡ None → (j.port < u.ports) × (j.provider < 256) × (j.requirer < 256)
+  unbind_range j h = not_strays j.port j.provider j.requirer (none_if (strays s j.port j.provider j.requirer) _ _ h).0
 
   -- the state of a change without offence
   pub change_range : (z q : ℕ) → offence (Change z q) s ≡ None → (z < 256) × (q < 8)

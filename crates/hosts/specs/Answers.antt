@@ -132,3 +132,7 @@ pub record Decided (o : Order) (m n : Meaning) (r : Answer) : Type 0 where
 pub record Answered (o : Order) (m n : Meaning) (r : Answer) : Type 0 where
   pub busy : 0 < m.service.load.waits → PutOff m n r
   pub decided : m.service.load.waits ≡ 0 → Decided o m n r
+
+-- the order leads from the host h to the host k with this answer, where s and v tell what a host means
+abbrev pub Gives : {H : Type 0} → (H → Situation) → (H → Service) → Order → H → H → Answer → Type 0
+Gives s v o h k r = Answered o (meaning (s h) (v h)) (meaning (s k) (v k)) r

@@ -2,10 +2,11 @@
 ghost use Rattle.std.specs.Prelude.{◌≡◌};
 ghost use Rattle.model.specs.declared.order.Order.TheVariants.{Create, Bind, Change, Unbind, Delete};
 ghost use Rattle.hosts.specs.Service.{Sane, Service};
-ghost use Rattle.hosts.specs.Answers.{Answered, meaning};
+ghost use Rattle.hosts.specs.Answers.{Gives};
 
 use crate::refusal::Refusal;
 use crate::survey::Survey;
+use model::binding::Binding;
 use model::order::Order;
 
 pub trait Host: Survey {
@@ -40,38 +41,30 @@ pub trait Host: Survey {
         ensures { result ≡ (service self.now).profile.height };
 
     fn create(&mut self, instance: u32, kind: u32) -> Result<(), Refusal>
-        ensures answered { Answered (Create instance kind) (meaning (Self.Survey.situation self.old) (service self.old)) (meaning (Self.Survey.situation self.new) (service self.new)) result };
+        ensures answered { Gives Self.Survey.situation service (Create instance kind) self.old self.new result };
 
-    fn bind(&mut self, port: u32, provider: u32, requirer: u32) -> Result<(), Refusal>
-        ensures answered { Answered (Bind port provider requirer) (meaning (Self.Survey.situation self.old) (service self.old)) (meaning (Self.Survey.situation self.new) (service self.new)) result };
+    fn bind(&mut self, binding: Binding) -> Result<(), Refusal>
+        ensures answered { Gives Self.Survey.situation service (Bind binding) self.old self.new result };
 
     fn change(&mut self, instance: u32, state: u32) -> Result<(), Refusal>
-        ensures answered { Answered (Change instance state) (meaning (Self.Survey.situation self.old) (service self.old)) (meaning (Self.Survey.situation self.new) (service self.new)) result };
+        ensures answered { Gives Self.Survey.situation service (Change instance state) self.old self.new result };
 
-    fn unbind(&mut self, port: u32, provider: u32, requirer: u32) -> Result<(), Refusal>
-        ensures answered { Answered (Unbind port provider requirer) (meaning (Self.Survey.situation self.old) (service self.old)) (meaning (Self.Survey.situation self.new) (service self.new)) result };
+    fn unbind(&mut self, binding: Binding) -> Result<(), Refusal>
+        ensures answered { Gives Self.Survey.situation service (Unbind binding) self.old self.new result };
 
     fn delete(&mut self, instance: u32) -> Result<(), Refusal>
-        ensures answered { Answered (Delete instance) (meaning (Self.Survey.situation self.old) (service self.old)) (meaning (Self.Survey.situation self.new) (service self.new)) result };
+        ensures answered { Gives Self.Survey.situation service (Delete instance) self.old self.new result };
 }
 
 // Gives the host an order.
 pub fn give<B: Host>(host: &mut B, order: Order) -> Result<(), Refusal>
-    ensures { Answered order (meaning (B.Survey.situation host.old) (B.service host.old)) (meaning (B.Survey.situation host.new) (B.service host.new)) result }
+    ensures { Gives B.Survey.situation B.service order host.old host.new result }
 {
     match order {
         Order::Create { instance, kind } => host.create(instance, kind),
-        Order::Bind {
-            port,
-            provider,
-            requirer,
-        } => host.bind(port, provider, requirer),
+        Order::Bind(binding) => host.bind(binding),
         Order::Change { instance, state } => host.change(instance, state),
-        Order::Unbind {
-            port,
-            provider,
-            requirer,
-        } => host.unbind(port, provider, requirer),
+        Order::Unbind(binding) => host.unbind(binding),
         Order::Delete { instance } => host.delete(instance),
     }
 }

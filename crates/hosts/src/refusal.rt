@@ -1,6 +1,8 @@
 // Why an order is refused.
-ghost use Rattle.std.specs.Prelude.{◌≡◌};
-ghost use Rattle.hosts.specs.Refusals.{offence_number, reason_number};
+ghost use Rattle.std.specs.Prelude.{◌≡◌, Some, decimal};
+ghost use Rattle.hosts.specs.Refusals.{offence_number, reason_number, refusal_text};
+
+use std::fmt;
 
 // Why an order is not legal where it was given.
 #[derive(Clone, Copy, PartialEq, Eq, Debug)]
@@ -41,6 +43,15 @@ impl Offence {
     }
 }
 
+// The offence is shown as its number.
+impl fmt::Display for Offence {
+    ghost output = { λ o. Some (decimal (offence_number o)) };
+
+    fn fmt<W: fmt::Write>(&self, f: &mut fmt::Formatter<W>) -> fmt::Result {
+        write!(f, "{}", self.number())
+    }
+}
+
 // Why a host refuses an order.
 #[derive(Clone, Copy, PartialEq, Eq, Debug)]
 pub enum Reason {
@@ -68,9 +79,27 @@ impl Reason {
     }
 }
 
+// The reason is shown as its number.
+impl fmt::Display for Reason {
+    ghost output = { λ r. Some (decimal (reason_number r)) };
+
+    fn fmt<W: fmt::Write>(&self, f: &mut fmt::Formatter<W>) -> fmt::Result {
+        write!(f, "{}", self.number())
+    }
+}
+
 // A host's refusal: the reason, and the height of the layer that gave it.
 #[derive(Clone, Copy, PartialEq, Eq, Debug)]
 pub struct Refusal {
     pub reason: Reason,
     pub height: u8,
+}
+
+// The number of the reason, and the height: `30 by 1`.
+impl fmt::Display for Refusal {
+    ghost output = { λ r. Some (refusal_text r) };
+
+    fn fmt<W: fmt::Write>(&self, f: &mut fmt::Formatter<W>) -> fmt::Result {
+        write!(f, "{} by {}", self.reason, self.height)
+    }
 }

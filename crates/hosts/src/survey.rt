@@ -3,6 +3,7 @@ ghost use Rattle.std.specs.Prelude.{◌≡◌};
 ghost use Rattle.universe.specs.Tables.{universe_of};
 ghost use Rattle.hosts.specs.Survey.{Lawful, Situation, bindings_of, instances_of};
 
+use model::binding::Binding;
 use model::pair::Pair;
 use universe::held::Universe;
 
@@ -22,8 +23,8 @@ pub trait Survey {
         ensures { result ≡ (situation self.now).config.inst instance };
 
     // Whether the binding stands.
-    fn is_bound(&self, port: u32, provider: u32, requirer: u32) -> bool
-        ensures { result ≡ (situation self.now).config.bound port provider requirer };
+    fn is_bound(&self, binding: Binding) -> bool
+        ensures { result ≡ (situation self.now).config.bound binding.port binding.provider binding.requirer };
 
     // How many instances stand.
     fn instances(&self) -> u32
