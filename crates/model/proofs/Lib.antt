@@ -6,3 +6,4 @@ pub mod Openings
 pub mod GapSearch
 pub mod Runs
 pub mod Counting
+pub mod Ranges

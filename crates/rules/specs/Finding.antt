@@ -9,26 +9,20 @@ use Rattle.model.specs.Gaps.{Gap, GapFree}
 use Rattle.model.specs.Orders.{result_of, same}
 use Rattle.model.specs.Bounded.{gap_at}
 use Rattle.rules.specs.declared.gaps.FoundGap.{FoundGap}
+use Rattle.hosts.specs.Survey.{Situation}
 use Rattle.rules.specs.declared.gaps.Prospect.{Prospect}
+use Rattle.rules.specs.declared.gaps.View.{View}
 use Rattle.rules.specs.declared.gaps.Prospect.TheVariants.{Present, Changed, Unbound}
 
 -- what would stand
 abbrev pub foreseen : Prospect → Config → Config
 foreseen Present c = c
 foreseen (Changed z q) c = result_of (Change z q) c
-foreseen (Unbound p x y) c = result_of (Unbind p x y) c
+foreseen (Unbound b) c = result_of (Unbind b) c
 
--- what would stand under the number y
-abbrev pub pair_foreseen : Prospect → Config → ℕ → Option Pair
-pair_foreseen Present c y = c.inst y
-pair_foreseen (Changed z q) c y = cond (y == z) (moved (c.inst y) q) (c.inst y)
-pair_foreseen (Unbound p x z) c y = c.inst y
-
--- the binding would stand
-abbrev pub bound_foreseen : Prospect → Config → ℕ → ℕ → ℕ → Bool
-bound_foreseen Present c p' x' y' = c.bound p' x' y'
-bound_foreseen (Changed z q) c p' x' y' = c.bound p' x' y'
-bound_foreseen (Unbound p x y) c p' x' y' = c.bound p' x' y' && not (same p x y p' x' y')
+-- what would stand in a survey, where s tells what stands
+abbrev pub viewed : {S : Type 0} → (S → Situation) → View S → Situation
+viewed s v = record { universe = (s v.survey.now).universe; config = foreseen v.prospect (s v.survey.now).config }
 
 -- the gap of the instance z at the port p, if there is one
 abbrev pub gap_here : Universe → Config → ℕ → ℕ → Option FoundGap

@@ -1,15 +1,15 @@
 // The gap finder: the first gap in a survey, and the first that a change or an unbind would leave.
 ghost use Rattle.std.specs.Prelude.{◌≡◌, not, ◌&&◌, is_some};
 ghost use Rattle.model.specs.declared.order.Order.TheVariants.{Change, Unbind};
-ghost use Rattle.model.specs.Config.{moved};
-ghost use Rattle.model.specs.Orders.{result_of, same};
-ghost use Rattle.model.specs.Bounded.{any_gap, covered};
+ghost use Rattle.model.specs.Orders.{result_of};
+ghost use Rattle.model.specs.Bounded.{any_gap, covered, gap_at};
 ghost use Rattle.rules.specs.declared.ports.Role.TheVariants.{Provider, Requirer};
 ghost use Rattle.rules.specs.Ports.{now_has};
-ghost use Rattle.rules.specs.Finding.{TellsGaps, bound_foreseen, first_gap_in, first_gap_at, foreseen, pair_foreseen};
+ghost use Rattle.rules.specs.Finding.{TellsGaps, first_gap_in, first_gap_at, viewed};
 
 use crate::ports::{Role, has_port, ports};
 use hosts::survey::Survey;
+use model::binding::Binding;
 use model::pair::Pair;
 
 // A gap: the instance, and the port that its state requires and nobody provides to it.
@@ -27,163 +27,95 @@ enum Prospect {
         instance: u32,
         state: u8,
     },
-    Unbound {
-        port: u32,
-        provider: u32,
-        requirer: u32,
-    },
+    Unbound(Binding),
 }
 
-// What stands, in another state.
-fn moved_to(pair: Option<Pair>, state: u8) -> Option<Pair>
-    ensures { result ≡ moved pair state }
-{
-    match pair {
-        Some(pair) => Some(Pair {
-            kind: pair.kind,
-            state,
-        }),
-        None => None,
-    }
-}
-
-// What would stand under the number.
-fn pair_in<S: Survey>(survey: &S, prospect: Prospect, instance: u32) -> Option<Pair>
-    ensures { result ≡ pair_foreseen prospect (S.situation survey.now).config instance }
-{
-    let pair = survey.at(instance);
-    match prospect {
-        Prospect::Changed {
-            instance: changed,
-            state,
-        } => {
-            if instance == changed {
-                moved_to(pair, state)
-            } else {
-                pair
-            }
-        }
-        Prospect::Present => pair,
-        Prospect::Unbound {
-            port: _,
-            provider: _,
-            requirer: _,
-        } => pair,
-    }
-}
-
-// Whether two bindings are one.
-fn is_same(a: (u32, u32, u32), b: (u32, u32, u32)) -> bool
-    ensures { result ≡ same a.0 a.1 a.2 b.0 b.1 b.2 }
-{
-    a.0 == b.0 && a.1 == b.1 && a.2 == b.2
-}
-
-// Whether the binding would stand.
-fn is_bound_in<S: Survey>(
-    survey: &S,
+// A survey as it stands, or as it would stand.
+#[derive(Drop)]
+struct View<'a, S> {
+    survey: &'a S,
     prospect: Prospect,
-    port: u32,
-    provider: u32,
-    requirer: u32,
-) -> bool
-    ensures { result ≡ bound_foreseen prospect (S.situation survey.now).config port provider requirer }
-{
-    let bound = survey.is_bound(port, provider, requirer);
-    match prospect {
-        Prospect::Unbound {
-            port: p,
-            provider: x,
-            requirer: y,
-        } => bound && !is_same((p, x, y), (port, provider, requirer)),
-        Prospect::Present => bound,
-        Prospect::Changed {
-            instance: _,
-            state: _,
-        } => bound,
-    }
 }
 
-// Whether the pair has the port in that role.
-fn pair_has_port<S: Survey>(survey: &S, role: Role, port: u32, pair: Option<Pair>) -> bool
-    ensures { result ≡ now_has (S.situation survey.now).universe role port pair }
-{
-    match pair {
-        Some(pair) => has_port(
-            survey.universe(),
-            role,
-            pair.kind as u32,
-            pair.state as u32,
-            port,
-        ),
-        None => false,
-    }
-}
-
-// Whether the provider would provide the port to the instance: it is in a state that provides it, and bound.
-fn does_cover<S: Survey>(
-    survey: &S,
-    prospect: Prospect,
-    port: u32,
-    provider: u32,
-    instance: u32,
-) -> bool
-    ensures { result ≡ (now_has (S.situation survey.now).universe Provider port (pair_foreseen prospect (S.situation survey.now).config provider) && bound_foreseen prospect (S.situation survey.now).config port provider instance) }
-{
-    let pair = pair_in(survey, prospect, provider);
-    pair_has_port(survey, Role::Provider, port, pair)
-        && is_bound_in(survey, prospect, port, provider, instance)
-}
-
-// Whether some provider would cover the port of the instance.
-fn is_covered<S: Survey>(survey: &S, prospect: Prospect, port: u32, instance: u32) -> bool
-    ensures { result ≡ covered 256 (S.situation survey.now).universe (foreseen prospect (S.situation survey.now).config) instance port }
-{
-    for provider in 0..256 {
-        if does_cover(survey, prospect, port, provider, instance) {
-            return true;
+impl<S: Survey> View<'_, S> {
+    // What would stand under the number.
+    fn at(&self, instance: u32) -> Option<Pair>
+        ensures { result ≡ (viewed S.situation self.now).config.inst instance }
+    {
+        let pair = self.survey.at(instance)?;
+        match self.prospect {
+            Prospect::Changed {
+                instance: changed,
+                state,
+            } if instance == changed => Some(Pair { state, ..pair }),
+            _ => Some(pair),
         }
     }
-    false
-}
 
-// Whether the instance would have a gap at the port.
-fn has_gap<S: Survey>(survey: &S, prospect: Prospect, port: u32, instance: u32) -> bool
-    ensures { result ≡ (now_has (S.situation survey.now).universe Requirer port (pair_foreseen prospect (S.situation survey.now).config instance) && not (covered 256 (S.situation survey.now).universe (foreseen prospect (S.situation survey.now).config) instance port)) }
-{
-    let pair = pair_in(survey, prospect, instance);
-    pair_has_port(survey, Role::Requirer, port, pair)
-        && !is_covered(survey, prospect, port, instance)
-}
-
-// The first gap that the instance would have.
-fn first_gap_of<S: Survey>(survey: &S, prospect: Prospect, instance: u32) -> Option<FoundGap>
-    ensures { result ≡ first_gap_at (S.situation survey.now).universe (foreseen prospect (S.situation survey.now).config) instance }
-{
-    if pair_in(survey, prospect, instance).is_none() {
-        return None;
-    }
-    for port in 0..ports(survey) {
-        if has_gap(survey, prospect, port, instance) {
-            return Some(FoundGap { instance, port });
+    // Whether the binding would stand.
+    fn is_bound(&self, binding: Binding) -> bool
+        ensures { result ≡ (viewed S.situation self.now).config.bound binding.port binding.provider binding.requirer }
+    {
+        let bound = self.survey.is_bound(binding);
+        match self.prospect {
+            Prospect::Unbound(unbound) => bound && binding != unbound,
+            _ => bound,
         }
     }
-    None
-}
 
-// The first gap that there would be.
-fn first_gap<S: Survey>(survey: &S, prospect: Prospect) -> Option<FoundGap>
-    ensures value { result ≡ first_gap_in (S.situation survey.now).universe (foreseen prospect (S.situation survey.now).config) }
-    ensures law { TellsGaps (S.situation survey.now).universe (foreseen prospect (S.situation survey.now).config) result }
-    ensures whole { is_some result ≡ any_gap 256 (S.situation survey.now).universe (foreseen prospect (S.situation survey.now).config) }
-{
-    for instance in 0..256 {
-        let gap = first_gap_of(survey, prospect, instance);
-        if gap.is_some() {
-            return gap;
-        }
+    // Whether the instance would have the port in that role.
+    fn has_port(&self, role: Role, port: u32, instance: u32) -> bool
+        ensures { result ≡ now_has (viewed S.situation self.now).universe role port ((viewed S.situation self.now).config.inst instance) }
+    {
+        let universe = self.survey.universe();
+        self.at(instance).is_some_and(|pair| {
+            has_port(universe, role, u32::from(pair.kind), u32::from(pair.state), port)
+        })
     }
-    None
+
+    // Whether the provider would provide the port to the instance: it is in a state that provides it, and bound.
+    fn does_cover(&self, port: u32, provider: u32, instance: u32) -> bool
+        ensures { result ≡ (now_has (viewed S.situation self.now).universe Provider port ((viewed S.situation self.now).config.inst provider) && (viewed S.situation self.now).config.bound port provider instance) }
+    {
+        self.has_port(Role::Provider, port, provider)
+            && self.is_bound(Binding {
+                port,
+                provider,
+                requirer: instance,
+            })
+    }
+
+    // Whether some provider would cover the port of the instance.
+    fn is_covered(&self, port: u32, instance: u32) -> bool
+        ensures { result ≡ covered 256 (viewed S.situation self.now).universe (viewed S.situation self.now).config instance port }
+    {
+        (0..256).any(|provider| self.does_cover(port, provider, instance))
+    }
+
+    // Whether the instance would have a gap at the port.
+    fn has_gap(&self, port: u32, instance: u32) -> bool
+        ensures { result ≡ gap_at 256 (viewed S.situation self.now).universe (viewed S.situation self.now).config instance port }
+    {
+        self.has_port(Role::Requirer, port, instance) && !self.is_covered(port, instance)
+    }
+
+    // The first gap that the instance would have.
+    fn first_gap_of(&self, instance: u32) -> Option<FoundGap>
+        ensures { result ≡ first_gap_at (viewed S.situation self.now).universe (viewed S.situation self.now).config instance }
+    {
+        self.at(instance)?;
+        let port = (0..ports(self.survey)).find(|port| self.has_gap(*port, instance))?;
+        Some(FoundGap { instance, port })
+    }
+
+    // The first gap that there would be.
+    fn first_gap(&self) -> Option<FoundGap>
+        ensures value { result ≡ first_gap_in (viewed S.situation self.now).universe (viewed S.situation self.now).config }
+        ensures law { TellsGaps (viewed S.situation self.now).universe (viewed S.situation self.now).config result }
+        ensures whole { is_some result ≡ any_gap 256 (viewed S.situation self.now).universe (viewed S.situation self.now).config }
+    {
+        (0..256).find_map(|instance| self.first_gap_of(instance))
+    }
 }
 
 // The first gap, by instance and then by port.
@@ -192,7 +124,11 @@ pub fn find_gap<S: Survey>(survey: &S) -> Option<FoundGap>
     ensures law { TellsGaps (S.situation survey.now).universe (S.situation survey.now).config result }
     ensures whole { is_some result ≡ any_gap 256 (S.situation survey.now).universe (S.situation survey.now).config }
 {
-    first_gap(survey, Prospect::Present)
+    View {
+        survey,
+        prospect: Prospect::Present,
+    }
+    .first_gap()
 }
 
 // The first gap that the change would leave.
@@ -201,26 +137,22 @@ pub fn find_gap_after_change<S: Survey>(survey: &S, instance: u32, state: u8) ->
     ensures law { TellsGaps (S.situation survey.now).universe (result_of (Change instance state) (S.situation survey.now).config) result }
     ensures whole { is_some result ≡ any_gap 256 (S.situation survey.now).universe (result_of (Change instance state) (S.situation survey.now).config) }
 {
-    first_gap(survey, Prospect::Changed { instance, state })
+    View {
+        survey,
+        prospect: Prospect::Changed { instance, state },
+    }
+    .first_gap()
 }
 
 // The first gap that the unbind would leave.
-pub fn find_gap_after_unbind<S: Survey>(
-    survey: &S,
-    port: u32,
-    provider: u32,
-    requirer: u32,
-) -> Option<FoundGap>
-    ensures value { result ≡ first_gap_in (S.situation survey.now).universe (result_of (Unbind port provider requirer) (S.situation survey.now).config) }
-    ensures law { TellsGaps (S.situation survey.now).universe (result_of (Unbind port provider requirer) (S.situation survey.now).config) result }
-    ensures whole { is_some result ≡ any_gap 256 (S.situation survey.now).universe (result_of (Unbind port provider requirer) (S.situation survey.now).config) }
+pub fn find_gap_after_unbind<S: Survey>(survey: &S, binding: Binding) -> Option<FoundGap>
+    ensures value { result ≡ first_gap_in (S.situation survey.now).universe (result_of (Unbind binding) (S.situation survey.now).config) }
+    ensures law { TellsGaps (S.situation survey.now).universe (result_of (Unbind binding) (S.situation survey.now).config) result }
+    ensures whole { is_some result ≡ any_gap 256 (S.situation survey.now).universe (result_of (Unbind binding) (S.situation survey.now).config) }
 {
-    first_gap(
+    View {
         survey,
-        Prospect::Unbound {
-            port,
-            provider,
-            requirer,
-        },
-    )
+        prospect: Prospect::Unbound(binding),
+    }
+    .first_gap()
 }

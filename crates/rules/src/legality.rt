@@ -6,6 +6,7 @@ ghost use Rattle.hosts.specs.Offences.{bind_offence_of, change_offence_of, creat
 use crate::ports::{Role, ever_has_port, ports};
 use hosts::refusal::Offence;
 use hosts::survey::Survey;
+use model::binding::Binding;
 
 // Whether an instance stands under the number.
 pub fn is_standing<S: Survey>(survey: &S, instance: u32) -> bool
@@ -15,46 +16,45 @@ pub fn is_standing<S: Survey>(survey: &S, instance: u32) -> bool
 }
 
 // How many types there are.
-fn types<S: Survey>(survey: &S) -> u8
+fn types<S: Survey>(survey: &S) -> u32
     ensures { result ≡ (S.situation survey.now).universe.types }
 {
-    survey.universe().types()
+    u32::from(survey.universe().types())
 }
 
 // Whether an end or the port of a binding is out of range.
-fn is_stray<S: Survey>(survey: &S, port: u32, provider: u32, requirer: u32) -> bool
-    ensures { result ≡ strays (S.situation survey.now) port provider requirer }
+fn is_stray<S: Survey>(survey: &S, binding: Binding) -> bool
+    ensures { result ≡ strays (S.situation survey.now) binding.port binding.provider binding.requirer }
 {
     let ports = ports(survey);
-    provider > 255 || requirer > 255 || port >= ports
+    binding.provider > 255 || binding.requirer > 255 || binding.port >= ports
 }
 
 // Whether an end of a binding does not stand.
-fn is_loose<S: Survey>(survey: &S, provider: u32, requirer: u32) -> bool
-    ensures { result ≡ loose (S.situation survey.now) provider requirer }
+fn is_loose<S: Survey>(survey: &S, binding: Binding) -> bool
+    ensures { result ≡ loose (S.situation survey.now) binding.provider binding.requirer }
 {
-    !(is_standing(survey, provider) && is_standing(survey, requirer))
+    !(is_standing(survey, binding.provider) && is_standing(survey, binding.requirer))
 }
 
 // Whether the ends are one, or their types never have the port.
-fn is_unfit<S: Survey>(survey: &S, port: u32, provider: u32, requirer: u32) -> bool
-    ensures { result ≡ unfit (S.situation survey.now) port provider requirer }
+fn is_unfit<S: Survey>(survey: &S, binding: Binding) -> bool
+    ensures { result ≡ unfit (S.situation survey.now) binding.port binding.provider binding.requirer }
 {
-    provider == requirer
-        || !ever_has_port(survey, Role::Provider, port, provider)
-        || !ever_has_port(survey, Role::Requirer, port, requirer)
+    binding.provider == binding.requirer
+        || !ever_has_port(survey, Role::Provider, binding.port, binding.provider)
+        || !ever_has_port(survey, Role::Requirer, binding.port, binding.requirer)
 }
 
 // Whether the state is a successor of that of the instance.
 fn does_follow<S: Survey>(survey: &S, instance: u32, state: u32) -> bool
     ensures { result ≡ follows (S.situation survey.now) instance state }
 {
-    match survey.at(instance) {
-        Some(pair) => survey
+    survey.at(instance).is_some_and(|pair| {
+        survey
             .universe()
-            .is_successor(pair.kind as u32, pair.state as u32, state),
-        None => false,
-    }
+            .is_successor(u32::from(pair.kind), u32::from(pair.state), state)
+    })
 }
 
 // The first offence of a create.
@@ -62,7 +62,7 @@ pub fn create_offence<S: Survey>(survey: &S, instance: u32, kind: u32) -> Option
     ensures { result ≡ create_offence_of (S.situation survey.now) instance kind }
 {
     let types = types(survey);
-    if instance > 255 || kind >= types as u32 {
+    if instance > 255 || kind >= types {
         return Some(Offence::OutOfRange);
     }
     if is_standing(survey, instance) {
@@ -72,24 +72,19 @@ pub fn create_offence<S: Survey>(survey: &S, instance: u32, kind: u32) -> Option
 }
 
 // The first offence of a bind.
-pub fn bind_offence<S: Survey>(
-    survey: &S,
-    port: u32,
-    provider: u32,
-    requirer: u32,
-) -> Option<Offence>
-    ensures { result ≡ bind_offence_of (S.situation survey.now) port provider requirer }
+pub fn bind_offence<S: Survey>(survey: &S, binding: Binding) -> Option<Offence>
+    ensures { result ≡ bind_offence_of (S.situation survey.now) binding.port binding.provider binding.requirer }
 {
-    if is_stray(survey, port, provider, requirer) {
+    if is_stray(survey, binding) {
         return Some(Offence::OutOfRange);
     }
-    if is_loose(survey, provider, requirer) {
+    if is_loose(survey, binding) {
         return Some(Offence::NotStanding);
     }
-    if is_unfit(survey, port, provider, requirer) {
+    if is_unfit(survey, binding) {
         return Some(Offence::Unfit);
     }
-    if survey.is_bound(port, provider, requirer) {
+    if survey.is_bound(binding) {
         return Some(Offence::Bound);
     }
     None
@@ -112,21 +107,16 @@ pub fn change_offence<S: Survey>(survey: &S, instance: u32, state: u32) -> Optio
 }
 
 // The first offence of an unbind.
-pub fn unbind_offence<S: Survey>(
-    survey: &S,
-    port: u32,
-    provider: u32,
-    requirer: u32,
-) -> Option<Offence>
-    ensures { result ≡ unbind_offence_of (S.situation survey.now) port provider requirer }
+pub fn unbind_offence<S: Survey>(survey: &S, binding: Binding) -> Option<Offence>
+    ensures { result ≡ unbind_offence_of (S.situation survey.now) binding.port binding.provider binding.requirer }
 {
-    if is_stray(survey, port, provider, requirer) {
+    if is_stray(survey, binding) {
         return Some(Offence::OutOfRange);
     }
-    if is_loose(survey, provider, requirer) {
+    if is_loose(survey, binding) {
         return Some(Offence::NotStanding);
     }
-    if !survey.is_bound(port, provider, requirer) {
+    if !survey.is_bound(binding) {
         return Some(Offence::Unbound);
     }
     None

@@ -28,12 +28,7 @@ pub fn has_port(universe: &Universe, role: Role, kind: u32, state: u32, port: u3
 fn is_ever_in(universe: &Universe, role: Role, kind: u32, port: u32) -> bool
     ensures { result ≡ any (λ q. holds_port (universe_of universe.now.tables) role kind q port) ((universe_of universe.now.tables).states kind) }
 {
-    for state in 0..universe.states(kind) as u32 {
-        if has_port(universe, role, kind, state, port) {
-            return true;
-        }
-    }
-    false
+    (0..u32::from(universe.states(kind))).any(|state| has_port(universe, role, kind, state, port))
 }
 
 // Whether some state of the type of the instance has the port in that role; not where nothing stands.
@@ -41,7 +36,7 @@ pub fn ever_has_port<S: Survey>(survey: &S, role: Role, port: u32, instance: u32
     ensures { result ≡ ever_has (S.situation survey.now).universe role port ((S.situation survey.now).config.inst instance) }
 {
     match survey.at(instance) {
-        Some(pair) => is_ever_in(survey.universe(), role, pair.kind as u32, port),
+        Some(pair) => is_ever_in(survey.universe(), role, u32::from(pair.kind), port),
         None => false,
     }
 }
@@ -50,5 +45,5 @@ pub fn ever_has_port<S: Survey>(survey: &S, role: Role, port: u32, instance: u32
 pub fn ports<S: Survey>(survey: &S) -> u32
     ensures { result ≡ (S.situation survey.now).universe.ports }
 {
-    survey.universe().ports() as u32
+    u32::from(survey.universe().ports())
 }
