@@ -1,22 +1,22 @@
 -- What the search for the first gap tells. Assumes nothing.
-use Rattle.std.proofs.Common.{◌≡◌, ℕ, zero, suc, ◌<◌, ◌≤◌, Bool, true, false, not, ◌&&◌, is_some, Some, None, Option, sym, refl, ap, ◌∙◌, inl, inr, true≢false, add-one, arith}
+use Rattle.std.proofs.Common.{◌≡◌, ℕ, ◌<◌, ◌≤◌, Bool, true, false, not, ◌&&◌, is_some, Some, None, Option, sym, refl, ap, inl, inr, true≢false, arith}
 use mathlib.Core.Bool.{false≢true}
+use Rattle.std.specs.Option.{MatchOption, option_map}
 use Rattle.std.proofs.lemmas.Bool.{cases_Bool}
 use Rattle.model.specs.Search.{find_first}
 use Rattle.model.specs.Universe.{Universe, Valid}
 use Rattle.model.specs.Config.{Config, required}
 use Rattle.model.specs.Gaps.{Gap}
 use Rattle.model.specs.Bounded.{Below, any_gap, covered, gap_at}
-use Rattle.model.proofs.Searches.{first_end, first_found, first_more, first_no, first_none, first_some}
+use Rattle.model.proofs.Ranges.{first_upto}
+use Rattle.model.proofs.Searches.{first_found, first_no, first_some}
 use Rattle.model.proofs.GapSearch.{gap_low, gap_passes, passes_gap, gap_found, search_law}
 use Rattle.hosts.specs.Survey.{Situation, Lawful}
 use Rattle.hosts.proofs.Offending.{lawful_below}
 use Rattle.rules.specs.declared.gaps.FoundGap.{FoundGap}
 use Rattle.rules.specs.declared.gaps.Prospect.{Prospect}
-use Rattle.rules.specs.declared.ports.Role.TheVariants.{Requirer}
-use Rattle.rules.specs.Ports.{now_has}
-use Rattle.rules.specs.Finding.{FirstGap, TellsGaps, first_gap_in, first_gap_at, foreseen, gap_here, pair_foreseen}
-use Rattle.rules.proofs.Foreseeing.{foreseen_below, pair_in_lem}
+use Rattle.rules.specs.Finding.{FirstGap, TellsGaps, first_gap_in, first_gap_at, foreseen, gap_here}
+use Rattle.rules.proofs.Foreseeing.{foreseen_below}
 
 -- what is not there, and what is
 pub none_is : {X : Type 0} (o : Option X) → is_some o ≡ false → o ≡ None
@@ -26,11 +26,6 @@ none_is (Some a) e = absurd (true≢false e)
 pub some_is : {X : Type 0} (o : Option X) → is_some o ≡ true → (a : X) × (o ≡ Some a)
 some_is None e = absurd (false≢true e)
 some_is (Some a) e = (a, refl)
-
--- where no number finds anything, nothing is found
-nothing : {X : Type 0} (f : ℕ → Option X) → ((i : ℕ) → f i ≡ None) → (n : ℕ) → find_first f n ≡ None
-nothing f h zero = first_none f
-nothing f h (suc n) = rw add-one at (first_more f n (nothing f h n) (h n))
 
 module _ (u : Universe) (c : Config) where
   -- the test of a gap, taken apart
@@ -46,7 +41,7 @@ module _ (u : Universe) (c : Config) where
 
   -- where nothing stands there is no gap
   pub none_of : (z : ℕ) → c.inst z ≡ None → (n : ℕ) → find_first (gap_here u c z) n ≡ None
-  none_of z e n = nothing (gap_here u c z) (λ p. here_none z p (gap_test z p false (covered 256 u c z p) (ap (required u p) e) refl)) n
+  none_of z e n = first_upto (gap_here u c z) n (λ p l. here_none z p (gap_test z p false (covered 256 u c z p) (ap (required u p) e) refl))
 
   -- what is found is a gap of that instance at that port
   here_is : (z p : ℕ) (g : FoundGap) → gap_here u c z p ≡ Some g → (gap_at 256 u c z p ≡ true) × (g ≡ record { instance = z; port = p })
@@ -59,6 +54,16 @@ module _ (u : Universe) (c : Config) where
   -- no gap is found where there is none
   here_not : (z p : ℕ) → gap_here u c z p ≡ None → Gap u c z p → ⊥
   here_not z p e g = let h = here_some z p (gap_passes 256 u c z p g) in let z : ◌≡◌ {A = ℕ} 0 1 = cc in omega arith
+
+  -- the first port below n at which the instance has a gap, as its first gap
+  pub first_here : (z n : ℕ) (r : Option ℕ) →
+      MatchOption r ((p : ℕ) → 0 ≤ p → p < n → gap_at 256 u c z p ≡ false)
+      (λ p. (0 ≤ p) × (p < n) × (gap_at 256 u c z p ≡ true) × ((q : ℕ) → 0 ≤ q → q < p → gap_at 256 u c z q ≡ false)) →
+      option_map (λ p. record { instance = z; port = p }) r ≡ find_first (gap_here u c z) n
+  first_here z n None h = sym (first_upto (gap_here u c z) n (λ p l. here_none z p (h p (omega arith) l)))
+  first_here z n (Some p) h =
+      sym (first_found (gap_here u c z) p n _ h.1
+      (first_upto (gap_here u c z) p (λ q l. here_none z q (h.3 q (omega arith) l))) (here_some z p h.2))
 
   module _ (ok : Valid u) (low : Below 256 c) where
     -- nothing found for an instance: it has no gap
@@ -103,22 +108,6 @@ module _ (u : Universe) (c : Config) where
     pub found_any : (r : Option FoundGap) → TellsGaps u c r → is_some r ≡ any_gap 256 u c
     found_any None free = sym ((search_law 256 u c ok low).1 free)
     found_any (Some g) first = sym (gap_found 256 u c ok low g.instance g.port first.gap)
-
--- the search has found the first, or come to its end
-module _ (u : Universe) (c : Config) (z : ℕ) where
-  pub found_first : (r : Option FoundGap) → z < 256 → find_first (first_gap_at u c) z ≡ None → r ≡ first_gap_at u c z → is_some r ≡ true → r ≡ first_gap_in u c
-  unfolding first_gap_in
-  found_first r l none e some = let a = some_is r some in a.1 ∙ sym (first_found (first_gap_at u c) z 256 a.0 l none (sym e ∙ a.1))
-
-  pub none_first : find_first (first_gap_at u c) z ≡ None → z ≤ 256 → 256 ≤ z → None ≡ first_gap_in u c
-  unfolding first_gap_in
-  none_first none l m = sym (first_end (first_gap_at u c) z 256 none l m)
-
--- the test of a gap in what is foreseen
-pub gap_in : (s : Situation) (k : Prospect) (p z : ℕ) →
-    gap_at 256 s.universe (foreseen k s.config) z p ≡
-    (now_has s.universe Requirer p (pair_foreseen k s.config z) && not (covered 256 s.universe (foreseen k s.config) z p))
-gap_in s k p z = gap_test s.universe (foreseen k s.config) z p _ _ (ap (required s.universe p) (sym (pair_in_lem k s.config z))) refl
 
 -- what the search answers, in what is foreseen
 pub told : (s : Situation) → Lawful s → (k : Prospect) (r : Option FoundGap) →

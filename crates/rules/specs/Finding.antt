@@ -1,12 +1,11 @@
 -- The search for the first gap, and what it tells.
-use Rattle.std.specs.Prelude.{ℕ, ◌<◌, Bool, cond, not, ◌&&◌, Some, None, Option, ◌==◌}
-use Rattle.model.specs.declared.pair.Pair.{Pair}
+use Rattle.std.specs.Prelude.{ℕ, ◌<◌, cond, Some, None, Option}
 use Rattle.model.specs.declared.order.Order.TheVariants.{Change, Unbind}
 use Rattle.model.specs.Search.{find_first}
 use Rattle.model.specs.Universe.{Universe}
-use Rattle.model.specs.Config.{Config, moved}
+use Rattle.model.specs.Config.{Config}
 use Rattle.model.specs.Gaps.{Gap, GapFree}
-use Rattle.model.specs.Orders.{result_of, same}
+use Rattle.model.specs.Orders.{result_of}
 use Rattle.model.specs.Bounded.{gap_at}
 use Rattle.rules.specs.declared.gaps.FoundGap.{FoundGap}
 use Rattle.hosts.specs.Survey.{Situation}

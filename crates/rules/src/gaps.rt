@@ -23,10 +23,7 @@ pub struct FoundGap {
 #[derive(Clone, Copy)]
 enum Prospect {
     Present,
-    Changed {
-        instance: u32,
-        state: u8,
-    },
+    Changed { instance: u32, state: u8 },
     Unbound(Binding),
 }
 
@@ -39,6 +36,7 @@ struct View<'a, S> {
 
 impl<S: Survey> View<'_, S> {
     // What would stand under the number.
+    #[tactic(auto, using(crate::proofs::Foreseeing::at_foreseen))]
     fn at(&self, instance: u32) -> Option<Pair>
         ensures { result ≡ (viewed S.situation self.now).config.inst instance }
     {
@@ -53,6 +51,7 @@ impl<S: Survey> View<'_, S> {
     }
 
     // Whether the binding would stand.
+    #[tactic(auto, using(crate::proofs::Foreseeing::binding_foreseen))]
     fn is_bound(&self, binding: Binding) -> bool
         ensures { result ≡ (viewed S.situation self.now).config.bound binding.port binding.provider binding.requirer }
     {
@@ -69,7 +68,13 @@ impl<S: Survey> View<'_, S> {
     {
         let universe = self.survey.universe();
         self.at(instance).is_some_and(|pair| {
-            has_port(universe, role, u32::from(pair.kind), u32::from(pair.state), port)
+            has_port(
+                universe,
+                role,
+                u32::from(pair.kind),
+                u32::from(pair.state),
+                port,
+            )
         })
     }
 
@@ -93,6 +98,7 @@ impl<S: Survey> View<'_, S> {
     }
 
     // Whether the instance would have a gap at the port.
+    #[tactic(auto, unfolding(model::specs::Bounded::gap_at))]
     fn has_gap(&self, port: u32, instance: u32) -> bool
         ensures { result ≡ gap_at 256 (viewed S.situation self.now).universe (viewed S.situation self.now).config instance port }
     {
@@ -104,8 +110,9 @@ impl<S: Survey> View<'_, S> {
         ensures { result ≡ first_gap_at (viewed S.situation self.now).universe (viewed S.situation self.now).config instance }
     {
         self.at(instance)?;
-        let port = (0..ports(self.survey)).find(|port| self.has_gap(*port, instance))?;
-        Some(FoundGap { instance, port })
+        (0..ports(self.survey))
+            .find(|port| self.has_gap(*port, instance))
+            .map(|port| FoundGap { instance, port })
     }
 
     // The first gap that there would be.
