@@ -3,9 +3,10 @@ use Rattle.std.specs.Prelude.{◌≡◌, ℕ, ◌+◌, min, Bool, true, false, n
 use Rattle.std.proofs.Common.{arith}
 use Rattle.model.specs.declared.order.Order.{Order}
 use Rattle.hosts.specs.declared.refusal.Reason.TheVariants.{Gap}
+use Rattle.hosts.specs.Survey.{Situation}
 use Rattle.hosts.specs.Service.{Service, Sane}
 use Rattle.hosts.specs.Offences.{offence}
-use Rattle.hosts.specs.Answers.{Meaning, Answer, Answered, is_tested, leaves_gap}
+use Rattle.hosts.specs.Answers.{Meaning, Answer, Answered, is_tested, leaves_gap, meaning}
 
 -- one more than below, held at 255
 abbrev pub above : ℕ → ℕ
@@ -32,3 +33,7 @@ stopped o m =
 pub record Relayed {B : Type 0} (o : Order) (before after : B) (m n : Meaning) (r : Answer) : Type 0 where
   pub stops : stopped o m ≡ true → (after ≡ before) × (r ≡ Err (record { reason = Gap; height = above m.service.profile.height }))
   pub passes : stopped o m ≡ false → Answered o m n r
+
+-- the layer leads the host below from h to k with this answer, where s and v tell what a host means
+abbrev pub Relays : {B : Type 0} → (B → Situation) → (B → Service) → Order → B → B → Answer → Type 0
+Relays s v o h k r = Relayed o h k (meaning (s h) (v h)) (meaning (s k) (v k)) r

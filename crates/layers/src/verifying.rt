@@ -2,12 +2,14 @@
 ghost use Rattle.std.specs.Prelude.{◌≡◌, not, ◌&&◌, is_some, ◌==◌};
 ghost use Rattle.model.specs.declared.order.Order.TheVariants.{Create, Bind, Change, Unbind, Delete};
 ghost use Rattle.hosts.specs.declared.refusal.Reason.TheVariants.{Gap};
-ghost use Rattle.hosts.specs.Answers.{Answered, leaves_gap, meaning};
-ghost use Rattle.layers.specs.Verifying.{Relayed, above, stopped, watched, watched_sane};
+ghost use Rattle.hosts.specs.Answers.{Gives, meaning};
+ghost use Rattle.layers.specs.Verifying.{Relays, above, stopped, watched, watched_sane};
 
-use hosts::host::Host;
+use hosts::host::{Host, give};
 use hosts::refusal::{Offence, Reason, Refusal};
 use hosts::survey::Survey;
+use model::binding::Binding;
+use model::order::Order;
 use model::pair::Pair;
 use rules::gaps::{find_gap_after_change, find_gap_after_unbind};
 use rules::legality::{change_offence, unbind_offence};
@@ -18,20 +20,6 @@ pub struct Verifying<B> {
     below: B,
 }
 
-// Whether the change would leave a gap.
-fn change_leaves_gap<S: Survey>(survey: &S, instance: u32, state: u8) -> bool
-    ensures { result ≡ leaves_gap (Change instance state) (S.situation survey.now) }
-{
-    find_gap_after_change(survey, instance, state).is_some()
-}
-
-// Whether the unbind would leave a gap.
-fn unbind_leaves_gap<S: Survey>(survey: &S, port: u32, provider: u32, requirer: u32) -> bool
-    ensures { result ≡ leaves_gap (Unbind port provider requirer) (S.situation survey.now) }
-{
-    find_gap_after_unbind(survey, port, provider, requirer).is_some()
-}
-
 // Whether the host below would neither put the order off nor find an offence in it.
 fn is_admitted<B: Host>(host: &B, offence: Option<Offence>) -> bool
     ensures { result ≡ ((B.service host.now).load.waits == 0 && not (is_some offence)) }
@@ -39,20 +27,21 @@ fn is_admitted<B: Host>(host: &B, offence: Option<Offence>) -> bool
     host.waits() == 0 && offence.is_none()
 }
 
-// Whether the layer over the host stops the change.
-fn does_stop_change<B: Host>(host: &B, instance: u32, state: u32) -> bool
-    ensures { result ≡ stopped (Change instance state) (meaning (B.Survey.situation host.now) (B.service host.now)) }
+// Whether the layer over the host stops the order: it would leave a gap, and nothing else refuses it before.
+fn does_stop<B: Host>(host: &B, order: Order) -> bool
+    ensures { result ≡ stopped order (meaning (B.Survey.situation host.now) (B.service host.now)) }
 {
-    is_admitted(host, change_offence(host, instance, state))
-        && change_leaves_gap(host, instance, state as u8)
-}
-
-// Whether the layer over the host stops the unbind.
-fn does_stop_unbind<B: Host>(host: &B, port: u32, provider: u32, requirer: u32) -> bool
-    ensures { result ≡ stopped (Unbind port provider requirer) (meaning (B.Survey.situation host.now) (B.service host.now)) }
-{
-    is_admitted(host, unbind_offence(host, port, provider, requirer))
-        && unbind_leaves_gap(host, port, provider, requirer)
+    match order {
+        Order::Change { instance, state } => {
+            is_admitted(host, change_offence(host, instance, state))
+                && find_gap_after_change(host, instance, state as u8).is_some()
+        }
+        Order::Unbind(binding) => {
+            is_admitted(host, unbind_offence(host, binding))
+                && find_gap_after_unbind(host, binding).is_some()
+        }
+        Order::Create { .. } | Order::Bind(_) | Order::Delete { .. } => false,
+    }
 }
 
 impl<B: Host> Verifying<B> {
@@ -80,44 +69,15 @@ impl<B: Host> Verifying<B> {
         }
     }
 
-    fn relay_create(&mut self, instance: u32, kind: u32) -> Result<(), Refusal>
-        ensures { Relayed (Create instance kind) self.old.below self.new.below (meaning (B.Survey.situation self.old.below) (B.service self.old.below)) (meaning (B.Survey.situation self.new.below) (B.service self.new.below)) result }
+    // Gives the order to the host below, unless the layer stops it.
+    fn relay(&mut self, order: Order) -> Result<(), Refusal>
+        ensures answered { Gives B.Survey.situation (λ h. watched (B.Host.service h)) order self.old.below self.new.below result }
+        ensures relayed { Relays B.Survey.situation B.Host.service order self.old.below self.new.below result }
     {
-        self.below.create(instance, kind)?;
-        Ok(())
-    }
-
-    fn relay_bind(&mut self, port: u32, provider: u32, requirer: u32) -> Result<(), Refusal>
-        ensures { Relayed (Bind port provider requirer) self.old.below self.new.below (meaning (B.Survey.situation self.old.below) (B.service self.old.below)) (meaning (B.Survey.situation self.new.below) (B.service self.new.below)) result }
-    {
-        self.below.bind(port, provider, requirer)?;
-        Ok(())
-    }
-
-    fn relay_change(&mut self, instance: u32, state: u32) -> Result<(), Refusal>
-        ensures { Relayed (Change instance state) self.old.below self.new.below (meaning (B.Survey.situation self.old.below) (B.service self.old.below)) (meaning (B.Survey.situation self.new.below) (B.service self.new.below)) result }
-    {
-        if does_stop_change(&self.below, instance, state) {
+        if does_stop(&self.below, order) {
             return Err(self.gap_refusal());
         }
-        self.below.change(instance, state)?;
-        Ok(())
-    }
-
-    fn relay_unbind(&mut self, port: u32, provider: u32, requirer: u32) -> Result<(), Refusal>
-        ensures { Relayed (Unbind port provider requirer) self.old.below self.new.below (meaning (B.Survey.situation self.old.below) (B.service self.old.below)) (meaning (B.Survey.situation self.new.below) (B.service self.new.below)) result }
-    {
-        if does_stop_unbind(&self.below, port, provider, requirer) {
-            return Err(self.gap_refusal());
-        }
-        self.below.unbind(port, provider, requirer)?;
-        Ok(())
-    }
-
-    fn relay_delete(&mut self, instance: u32) -> Result<(), Refusal>
-        ensures { Relayed (Delete instance) self.old.below self.new.below (meaning (B.Survey.situation self.old.below) (B.service self.old.below)) (meaning (B.Survey.situation self.new.below) (B.service self.new.below)) result }
-    {
-        self.below.delete(instance)?;
+        give(&mut self.below, order)?;
         Ok(())
     }
 }
@@ -135,8 +95,8 @@ impl<B: Host> Survey for Verifying<B> {
         self.below.at(instance)
     }
 
-    fn is_bound(&self, port: u32, provider: u32, requirer: u32) -> bool {
-        self.below.is_bound(port, provider, requirer)
+    fn is_bound(&self, binding: Binding) -> bool {
+        self.below.is_bound(binding)
     }
 
     fn instances(&self) -> u32 {
@@ -178,37 +138,37 @@ impl<B: Host> Host for Verifying<B> {
     }
 
     fn create(&mut self, instance: u32, kind: u32) -> Result<(), Refusal>
-        ensures answered { Answered (Create instance kind) (meaning (B.Survey.situation self.old.below) (watched (B.Host.service self.old.below))) (meaning (B.Survey.situation self.new.below) (watched (B.Host.service self.new.below))) result }
-        ensures relayed { Relayed (Create instance kind) self.old.below self.new.below (meaning (B.Survey.situation self.old.below) (B.Host.service self.old.below)) (meaning (B.Survey.situation self.new.below) (B.Host.service self.new.below)) result }
+        ensures answered { Gives B.Survey.situation (λ h. watched (B.Host.service h)) (Create instance kind) self.old.below self.new.below result }
+        ensures relayed { Relays B.Survey.situation B.Host.service (Create instance kind) self.old.below self.new.below result }
     {
-        self.relay_create(instance, kind)
+        self.relay(Order::Create { instance, kind })
     }
 
-    fn bind(&mut self, port: u32, provider: u32, requirer: u32) -> Result<(), Refusal>
-        ensures answered { Answered (Bind port provider requirer) (meaning (B.Survey.situation self.old.below) (watched (B.Host.service self.old.below))) (meaning (B.Survey.situation self.new.below) (watched (B.Host.service self.new.below))) result }
-        ensures relayed { Relayed (Bind port provider requirer) self.old.below self.new.below (meaning (B.Survey.situation self.old.below) (B.Host.service self.old.below)) (meaning (B.Survey.situation self.new.below) (B.Host.service self.new.below)) result }
+    fn bind(&mut self, binding: Binding) -> Result<(), Refusal>
+        ensures answered { Gives B.Survey.situation (λ h. watched (B.Host.service h)) (Bind binding) self.old.below self.new.below result }
+        ensures relayed { Relays B.Survey.situation B.Host.service (Bind binding) self.old.below self.new.below result }
     {
-        self.relay_bind(port, provider, requirer)
+        self.relay(Order::Bind(binding))
     }
 
     fn change(&mut self, instance: u32, state: u32) -> Result<(), Refusal>
-        ensures answered { Answered (Change instance state) (meaning (B.Survey.situation self.old.below) (watched (B.Host.service self.old.below))) (meaning (B.Survey.situation self.new.below) (watched (B.Host.service self.new.below))) result }
-        ensures relayed { Relayed (Change instance state) self.old.below self.new.below (meaning (B.Survey.situation self.old.below) (B.Host.service self.old.below)) (meaning (B.Survey.situation self.new.below) (B.Host.service self.new.below)) result }
+        ensures answered { Gives B.Survey.situation (λ h. watched (B.Host.service h)) (Change instance state) self.old.below self.new.below result }
+        ensures relayed { Relays B.Survey.situation B.Host.service (Change instance state) self.old.below self.new.below result }
     {
-        self.relay_change(instance, state)
+        self.relay(Order::Change { instance, state })
     }
 
-    fn unbind(&mut self, port: u32, provider: u32, requirer: u32) -> Result<(), Refusal>
-        ensures answered { Answered (Unbind port provider requirer) (meaning (B.Survey.situation self.old.below) (watched (B.Host.service self.old.below))) (meaning (B.Survey.situation self.new.below) (watched (B.Host.service self.new.below))) result }
-        ensures relayed { Relayed (Unbind port provider requirer) self.old.below self.new.below (meaning (B.Survey.situation self.old.below) (B.Host.service self.old.below)) (meaning (B.Survey.situation self.new.below) (B.Host.service self.new.below)) result }
+    fn unbind(&mut self, binding: Binding) -> Result<(), Refusal>
+        ensures answered { Gives B.Survey.situation (λ h. watched (B.Host.service h)) (Unbind binding) self.old.below self.new.below result }
+        ensures relayed { Relays B.Survey.situation B.Host.service (Unbind binding) self.old.below self.new.below result }
     {
-        self.relay_unbind(port, provider, requirer)
+        self.relay(Order::Unbind(binding))
     }
 
     fn delete(&mut self, instance: u32) -> Result<(), Refusal>
-        ensures answered { Answered (Delete instance) (meaning (B.Survey.situation self.old.below) (watched (B.Host.service self.old.below))) (meaning (B.Survey.situation self.new.below) (watched (B.Host.service self.new.below))) result }
-        ensures relayed { Relayed (Delete instance) self.old.below self.new.below (meaning (B.Survey.situation self.old.below) (B.Host.service self.old.below)) (meaning (B.Survey.situation self.new.below) (B.Host.service self.new.below)) result }
+        ensures answered { Gives B.Survey.situation (λ h. watched (B.Host.service h)) (Delete instance) self.old.below self.new.below result }
+        ensures relayed { Relays B.Survey.situation B.Host.service (Delete instance) self.old.below self.new.below result }
     {
-        self.relay_delete(instance)
+        self.relay(Order::Delete { instance })
     }
 }
