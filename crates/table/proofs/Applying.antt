@@ -1,24 +1,26 @@
 -- An order that no rule refuses can be worked on the records, and what it leaves is a table again. Assumes nothing.
-use Rattle.std.proofs.Common.{◌≡◌, ℕ, ◌<◌, ◌≤◌, Bool, true, false, Some, None, Option, sym, refl, ap, subst, arith}
+use Rattle.std.proofs.Common.{◌≡◌, ℕ, ◌≤◌, Bool, false, List, Some, None, Option, sym, refl, subst, arith}
 use Rattle.std.proofs.lemmas.Bool.{eqb-false}
 use Rattle.model.specs.declared.order.Order.{Order}
 use Rattle.model.specs.declared.order.Order.TheVariants.{Create, Bind, Change, Unbind, Delete}
 use Rattle.model.specs.Config.{Config}
 use Rattle.model.proofs.Searches.{any_found}
 use Rattle.model.proofs.Results.{same_self}
-use Rattle.universe.specs.declared.tables.Tables.{Tables}
-use Rattle.universe.specs.Tables.{universe_of}
+use Rattle.model.specs.declared.pair.Pair.{Pair}
+use Rattle.model.specs.Universe.{Universe}
+use Rattle.model.specs.Orders.{result_of}
 use Rattle.hosts.specs.declared.refusal.Offence.{Offence}
 use Rattle.hosts.specs.declared.refusal.Reason.TheVariants.{Full}
 use Rattle.hosts.specs.Survey.{Lawful}
 use Rattle.hosts.specs.Offences.{offence, refused_if}
 use Rattle.hosts.specs.Answers.{illegal_or, full_test}
 use Rattle.hosts.proofs.Offending.{bind_range, change_range, lawful_after, none_if, offence_none, unbind_range}
-use Rattle.table.specs.declared.records.Records.{Records}
+use Rattle.table.specs.declared.rows.Row.{Row}
 use Rattle.table.specs.declared.limits.Limits.{Limits}
-use Rattle.table.specs.Rows.{held, joins, row}
-use Rattle.table.specs.Records.{Able, Done}
-use Rattle.table.specs.Table.{Held, Ranged, applied, held_of, load_of, situation_of, table_rule}
+use Rattle.table.specs.Rows.{joins, row}
+use Rattle.table.specs.Fit.{Ranged, config}
+use Rattle.table.specs.Records.{Able}
+use Rattle.table.specs.Table.{Held, load_of, table_rule}
 
 clear : (x : Option Offence) (f : Bool) → illegal_or x (refused_if f Full None) ≡ None → (x ≡ None) × (f ≡ false)
 clear (Some e) f h = absurd (let z : ◌≡◌ {A = ℕ} 0 1 = cc in omega arith)
@@ -55,22 +57,15 @@ able (Delete z) h law room none =
     let l = offence_none h.situation law (Delete z) (no_offence (Delete z) h none) in
     (l.1, l.0.stands)
 
--- a row is a binding that stands
-row_held : (t : Records) (i : ℕ) → i < t.len → held t.rows t.len (row t.rows i).port (row t.rows i).provider (row t.rows i).requirer ≡ true
-row_held t i l =
-    let b = row t.rows i in
-    any_found (λ k. joins (row t.rows k) b.port b.provider b.requirer) i t.len l (same_self b.port b.provider b.requirer)
+-- where nothing stands out of range, no port of a row is
+rows_ranged : (u : Universe) (slots : List (Option Pair)) (rows : List Row) (n : ℕ) → Lawful (record { universe = u; config = config slots rows n }) → Ranged u.ports rows n
+rows_ranged u slots rows n law i l =
+    let b = row rows i in
+    (law.bound b.port b.provider b.requirer (any_found (λ k. joins (row rows k) b.port b.provider b.requirer) i n l (same_self b.port b.provider b.requirer))).0
 
--- where nothing stands out of range, no row is
-rows_ranged : (u : Tables) (t : Records) → Lawful (situation_of u t) → Ranged u t
-rows_ranged u t law i l = let r = law.bound _ _ _ (row_held t i l) in (r.1, r.2, r.0)
-
-module _ (u : Tables) (t t' : Records) (l : Limits) (o : Order) (law : Lawful (situation_of u t)) (none : table_rule o (held_of u t l) ≡ None) (done : Done o t t') where
-  pub done_ranged : Ranged u t'
-  done_ranged =
-      let P : Config → Type 0 = λ c. Lawful (record { universe = universe_of u; config = c }) in
-      rows_ranged u t' (subst P (sym done.config) (lawful_after (situation_of u t) law o (no_offence o (held_of u t l) none)))
-
-  -- and what stands is the order's result
-  pub done_held : held_of u t' l ≡ applied o None (held_of u t l)
-  done_held = ap (λ (c : Config). record { situation = record { universe = universe_of u; config = c }; limits = l }) done.config
+module _ (u : Universe) (c : Config) (l : Limits) (o : Order) (law : Lawful (record { universe = u; config = c })) (none : table_rule o (record { situation = record { universe = u; config = c }; limits = l }) ≡ None) where
+  -- the rows after the order
+  pub done_ranged : (slots : List (Option Pair)) (rows : List Row) (n : ℕ) → config slots rows n ≡ result_of o c → Ranged u.ports rows n
+  done_ranged slots rows n done =
+      let P : Config → Type 0 = λ c. Lawful (record { universe = u; config = c }) in
+      rows_ranged u slots rows n (subst P (sym done) (lawful_after (record { universe = u; config = c }) law o (no_offence o _ none)))

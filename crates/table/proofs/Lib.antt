@@ -3,5 +3,4 @@ pub mod RowSearch
 pub mod RowMoves
 pub mod Slots
 pub mod Performed
-pub mod Kept
 pub mod Applying

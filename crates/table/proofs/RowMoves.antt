@@ -3,13 +3,13 @@ use Rattle.std.proofs.Common.{◌≡◌, ℕ, ◌+◌, ◌-◌, ◌<◌, ◌≤�
 use Rattle.std.proofs.lemmas.List.{get_or-set_same, get_or-set_other}
 use Rattle.std.proofs.lemmas.Bool.{cases_lt, cases_order}
 use Rattle.std.proofs.lemmas.Bool.Decides.{same_from_decides, Decides-and, Decides-eqb, Decides-like, Decides-not, Decides-or}
-use Rattle.table.specs.declared.rows.Binding.{Binding}
-use Rattle.table.specs.Rows.{binding_of, blank, row, rank, joins, held, Among, Sound, Ordered, Place, Opened, Closed, Kept}
+use Rattle.table.specs.declared.rows.Row.{Row}
+use Rattle.table.specs.Rows.{row_of, blank, row, rank, joins, held, Among, Sound, Ordered, Place, Opened, Closed, Kept}
 use Rattle.table.proofs.RowSearch.{held_tells, joins_tells, one_place, rank_one}
 
 -- a binding is put in at the place of its rank
-module _ (xs ys : List Binding) (n : ℕ) (o : Ordered xs n) (b : Binding) (r : ℕ) (at : Place xs n (rank b) r) (opened : Opened xs ys r n) (room : n < length ys) where
-  abbrev into : List Binding
+module _ (xs ys : List Row) (n : ℕ) (o : Ordered xs n) (b : Row) (r : ℕ) (at : Place xs n (rank b) r) (opened : Opened xs ys r n) (room : n < length ys) where
+  abbrev into : List Row
   into = set ys r b
 
   new : row into r ≡ b
@@ -29,7 +29,7 @@ module _ (xs ys : List Binding) (n : ℕ) (o : Ordered xs n) (b : Binding) (r : 
       same_from_decides _ _ (Decides-like _ forth back (held_tells into (n + 1) p x y))
       (Decides-or _ _ (held_tells xs n p x y) (joins_tells b p x y))
     where
-      forth : Among into (n + 1) (binding_of p x y) → Among xs n (binding_of p x y) ⊎ (b ≡ binding_of p x y)
+      forth : Among into (n + 1) (row_of p x y) → Among xs n (row_of p x y) ⊎ (b ≡ row_of p x y)
       forth a =
           let i = a.0 in
           let l = a.1 in
@@ -41,7 +41,7 @@ module _ (xs ys : List Binding) (n : ℕ) (o : Ordered xs n) (b : Binding) (r : 
             ]
           ]
 
-      back : Among xs n (binding_of p x y) ⊎ (b ≡ binding_of p x y) → Among into (n + 1) (binding_of p x y)
+      back : Among xs n (row_of p x y) ⊎ (b ≡ row_of p x y) → Among into (n + 1) (row_of p x y)
       back (inl a) =
           let i = a.0 in
           let l = a.1 in
@@ -87,16 +87,16 @@ module _ (xs ys : List Binding) (n : ℕ) (o : Ordered xs n) (b : Binding) (r : 
           ]
 
 -- the row r is taken out
-module _ (xs ys : List Binding) (n : ℕ) (o : Ordered xs n) (r : ℕ) (closed : Closed xs ys r n) where
+module _ (xs ys : List Row) (n : ℕ) (o : Ordered xs n) (r : ℕ) (closed : Closed xs ys r n) where
   pub held_less : (p x y : ℕ) → held ys (n - 1) p x y ≡ (held xs n p x y && not (joins (row xs r) p x y))
   held_less p x y =
       same_from_decides _ _ (Decides-like _ forth back (held_tells ys (n - 1) p x y))
       (Decides-and _ _ (held_tells xs n p x y) (Decides-not _ (joins_tells (row xs r) p x y)))
     where
-      other : (k : ℕ) → k < n → k ≢ r → row xs k ≡ binding_of p x y → Among xs n (binding_of p x y) × (row xs r ≡ binding_of p x y → ⊥)
+      other : (k : ℕ) → k < n → k ≢ r → row xs k ≡ row_of p x y → Among xs n (row_of p x y) × (row xs r ≡ row_of p x y → ⊥)
       other k lk ne e = ((k, lk, e), λ f. ne (one_place xs n o k r lk closed.inside (ap rank (e ∙ sym f))))
 
-      forth : Among ys (n - 1) (binding_of p x y) → Among xs n (binding_of p x y) × (row xs r ≡ binding_of p x y → ⊥)
+      forth : Among ys (n - 1) (row_of p x y) → Among xs n (row_of p x y) × (row xs r ≡ row_of p x y → ⊥)
       forth a =
           let i = a.0 in
           let l = a.1 in
@@ -105,7 +105,7 @@ module _ (xs ys : List Binding) (n : ℕ) (o : Ordered xs n) (r : ℕ) (closed :
             | inr ge ↦ other (i + 1) (omega arith) (omega arith) (sym (closed.above i ge (omega arith)) ∙ a.2)
           ]
 
-      back : Among xs n (binding_of p x y) × (row xs r ≡ binding_of p x y → ⊥) → Among ys (n - 1) (binding_of p x y)
+      back : Among xs n (row_of p x y) × (row xs r ≡ row_of p x y → ⊥) → Among ys (n - 1) (row_of p x y)
       back a =
           let i = a.0.0 in
           let l = a.0.1 in
@@ -136,17 +136,17 @@ module _ (xs ys : List Binding) (n : ℕ) (o : Ordered xs n) (r : ℕ) (closed :
       }
 
 -- the rows of the requirer z are left out
-pub held_kept : (xs ys : List Binding) (n m z : ℕ) → Kept xs ys n m z → (p x y : ℕ) → held ys m p x y ≡ (held xs n p x y && not (eqb y z))
+pub held_kept : (xs ys : List Row) (n m z : ℕ) → Kept xs ys n m z → (p x y : ℕ) → held ys m p x y ≡ (held xs n p x y && not (eqb y z))
 held_kept xs ys n m z kept p x y =
     same_from_decides _ _ (Decides-like _ forth back (held_tells ys m p x y))
     (Decides-and _ _ (held_tells xs n p x y) (Decides-not _ (Decides-eqb y z)))
   where
-    forth : Among ys m (binding_of p x y) → Among xs n (binding_of p x y) × (y ≡ z → ⊥)
+    forth : Among ys m (row_of p x y) → Among xs n (row_of p x y) × (y ≡ z → ⊥)
     forth a =
         let f = kept.from a.0 a.1 in
-        ((f.0.0, f.0.1, f.0.2 ∙ a.2), λ e. f.1 (ap (λ (b : Binding). b.requirer) a.2 ∙ e))
+        ((f.0.0, f.0.1, f.0.2 ∙ a.2), λ e. f.1 (ap (λ (b : Row). b.requirer) a.2 ∙ e))
 
-    back : Among xs n (binding_of p x y) × (y ≡ z → ⊥) → Among ys m (binding_of p x y)
+    back : Among xs n (row_of p x y) × (y ≡ z → ⊥) → Among ys m (row_of p x y)
     back a =
-        let g = kept.all a.0.0 a.0.1 (λ e. a.1 (ap (λ (b : Binding). b.requirer) (sym a.0.2) ∙ e)) in
+        let g = kept.all a.0.0 a.0.1 (λ e. a.1 (ap (λ (b : Row). b.requirer) (sym a.0.2) ∙ e)) in
         (g.0, g.1, g.2 ∙ a.0.2)

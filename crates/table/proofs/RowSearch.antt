@@ -11,23 +11,23 @@ use Rattle.model.proofs.Results.{Same, same_self, same_true, same_false}
 use Rattle.model.proofs.Searches.{any_found, any_some, any_none, refuted}
 use Rattle.model.proofs.Counting.{bindings_more, bindings_none}
 use Rattle.hosts.specs.Offences.{provider_test}
-use Rattle.table.specs.declared.rows.Binding.{Binding}
-use Rattle.table.specs.Rows.{binding_of, row, rank, joins, held, Among, Sound, Ordered, Place}
+use Rattle.table.specs.declared.rows.Row.{Row}
+use Rattle.table.specs.Rows.{row_of, row, rank, joins, held, Among, Sound, Ordered, Place}
 
-pub joins_tells : (b : Binding) (p x y : ℕ) → Decides (joins b p x y) (b ≡ binding_of p x y)
+pub joins_tells : (b : Row) (p x y : ℕ) → Decides (joins b p x y) (b ≡ row_of p x y)
 joins_tells b p x y = (λ e. is (same_true b.port b.provider b.requirer p x y e), λ e. rw e (same_self p x y))
   where
-    is : Same b.port b.provider b.requirer p x y → b ≡ binding_of p x y
+    is : Same b.port b.provider b.requirer p x y → b ≡ row_of p x y
     is e = λ i. record { provider = sym e.1 i; requirer = sym e.2 i; port = sym e.0 i }
 
-pub held_tells : (xs : List Binding) (n p x y : ℕ) → Decides (held xs n p x y) (Among xs n (binding_of p x y))
+pub held_tells : (xs : List Row) (n p x y : ℕ) → Decides (held xs n p x y) (Among xs n (row_of p x y))
 held_tells xs n p x y = (
   (λ e. let f = any_some (λ i. joins (row xs i) p x y) n e in (f.0, f.1, (joins_tells (row xs f.0) p x y).0 f.2)),
   (λ a. any_found (λ i. joins (row xs i) p x y) a.0 n a.1 ((joins_tells (row xs a.0) p x y).1 a.2)),
 )
 
 -- bindings of one rank are one
-pub rank_one : (b d : Binding) → Sound b → Sound d → rank b ≡ rank d → b ≡ d
+pub rank_one : (b d : Row) → Sound b → Sound d → rank b ≡ rank d → b ≡ d
 rank_one b d s t e = λ i. record { provider = provider i; requirer = requirer i; port = port i }
   where
     provider : b.provider ≡ d.provider
@@ -40,10 +40,10 @@ rank_one b d s t e = λ i. record { provider = provider i; requirer = requirer i
     port = omega arith
 
 -- a configuration whose bindings are the rows
-abbrev pub holding : (ℕ → Option Pair) → List Binding → ℕ → Config
+abbrev pub holding : (ℕ → Option Pair) → List Row → ℕ → Config
 holding f xs n = record { inst = f; bound = held xs n }
 
-module _ (xs : List Binding) (n : ℕ) (o : Ordered xs n) where
+module _ (xs : List Row) (n : ℕ) (o : Ordered xs n) where
   -- rows of one rank are one
   pub one_place : (i j : ℕ) → i < n → j < n → rank (row xs i) ≡ rank (row xs j) → i ≡ j
   one_place i j li lj e =
@@ -62,7 +62,7 @@ module _ (xs : List Binding) (n : ℕ) (o : Ordered xs n) where
   pub held_within : (p x y : ℕ) → held xs n p x y ≡ true → (p < 32) × (x < 256) × (y < 256)
   held_within p x y e =
       let a = (held_tells xs n p x y).0 e in
-      let s : Sound (binding_of p x y) = rw (← a.2) (o.sound a.0 a.1) in
+      let s : Sound (row_of p x y) = rw (← a.2) (o.sound a.0 a.1) in
       (s.port, s.provider, s.requirer)
 
   -- at the place of the rank k stands the least row of this rank or more
@@ -82,7 +82,7 @@ module _ (xs : List Binding) (n : ℕ) (o : Ordered xs n) where
       ]
 
   -- a binding is among the rows exactly if it stands at the place of its rank
-  module _ (b : Binding) (s : Sound b) (k r : ℕ) (is : k ≡ rank b) (at : Place xs n k r) where
+  module _ (b : Row) (s : Sound b) (k r : ℕ) (is : k ≡ rank b) (at : Place xs n k r) where
     pub stands_at : Among xs n b → (r < n) × (row xs r ≡ b)
     stands_at a =
         let same = ap rank a.2 in
@@ -113,7 +113,7 @@ module _ (xs : List Binding) (n : ℕ) (o : Ordered xs n) where
           let p = any_some (λ p. any (held xs n p z) 256) 32 e in
           let y = any_some (held xs n p.0 z) 256 p.2 in
           let a = (held_tells xs n p.0 z y.0).0 y.2 in
-          (a.0, a.1, ap (λ (b : Binding). b.provider) a.2)),
+          (a.0, a.1, ap (λ (b : Row). b.provider) a.2)),
       (λ a.
           let b = row xs a.0 in
           let s = o.sound a.0 a.1 in
@@ -148,7 +148,7 @@ unfolding any
 any_suc f n = refl
 
 -- as many bindings stand as there are rows
-pub row_count : (f : ℕ → Option Pair) (xs : List Binding) (n : ℕ) → Ordered xs n → bindings 32 256 (holding f xs n) ≡ n
+pub row_count : (f : ℕ → Option Pair) (xs : List Row) (n : ℕ) → Ordered xs n → bindings 32 256 (holding f xs n) ≡ n
 row_count f xs zero o = bindings_none 32 256 (holding f xs 0) (λ p x y. any_none _)
 row_count f xs (suc n) o =
     let b = row xs n in

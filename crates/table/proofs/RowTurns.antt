@@ -1,30 +1,64 @@
 -- The turns of the loops over rows. Assumes nothing.
-use Rattle.std.proofs.Common.{◌≡◌, ℕ, ◌+◌, ◌<◌, ◌≤◌, ◌≢◌, List, length, set, sym, ap, ◌∙◌, inl, inr, arith}
-use Rattle.std.proofs.lemmas.List.{get_or-set_same, get_or-set_other}
-use Rattle.std.proofs.lemmas.Bool.{cases_lt}
-use Rattle.table.specs.declared.rows.Binding.{Binding}
-use Rattle.table.specs.Rows.{blank, row, rank, Sound, Ordered, Kept}
+use Rattle.std.proofs.Common.{◌≡◌, ℕ, ◌+◌, ◌-◌, ◌<◌, ◌≤◌, ◌≢◌, true, false, ltb, List, length, take, get_or, set, sym, ap, ◌∙◌, inl, inr, arith}
+use Rattle.std.specs.List.{CopiedTo, SameBelow}
+use Rattle.std.specs.List.Sorted.{IsPartitionPoint, IsPartitionedBy}
+use Rattle.std.proofs.lemmas.List.{get_or-set_same, get_or-set_other, get_or-take, get_or_default, length-take-le}
+use Rattle.std.proofs.lemmas.Bool.{cases_lt, lt-ltb, ltb-true, ltb-false}
+use Rattle.table.specs.declared.rows.Row.{Row}
+use Rattle.table.specs.Rows.{blank, row, rank, Sound, Ordered, Place, Opened, Closed, Kept}
 
--- where the row m is below the rank k, so are all up to it
-pub low_step : (xs : List Binding) (n k m : ℕ) → Ordered xs n → m < n → rank (row xs m) < k → (i : ℕ) → i < m + 1 → rank (row xs i) < k
-low_step xs n k m o lm h i l =
-    elim (cases_lt i m) [
-      | inl lt ↦ let r = o.rising i m lt lm in omega arith
-      | inr ge ↦ let e : i ≡ m = omega arith in rw e h
-    ]
+-- the point at which the first n rows reach the rank k is its place
+pub partition_place : (xs : List Row) (n k r : ℕ) → n ≤ length xs → r ≤ length (take n xs) →
+    IsPartitionPoint (λ b. ltb (rank b) k ≡ true) (λ b. ltb (rank b) k ≡ false) (take n xs) r → Place xs n k r
+partition_place xs n k r room most point =
+    record {
+      most = omega (arith, most, long);
+      before = λ i l. let e = get_or-take n xs i blank (omega (arith, most, long)) in
+          omega (arith, ltb-true (rank (row xs i)) k (ap (λ b. ltb (rank b) k) (sym e) ∙ point.0 i blank (omega arith) l));
+      after = λ i l m. let e = get_or-take n xs i blank m in
+          omega (arith, ltb-false (rank (row xs i)) k (ap (λ b. ltb (rank b) k) (sym e) ∙ point.1 i blank l (omega (arith, long))));
+    }
+  where
+    long : length (take n xs) ≡ n
+    long = length-take-le n xs room
 
--- the row i takes what the row behind it held
-pub close_step : (xs ys : List Binding) (r i : ℕ) → i < length ys →
-    ((k : ℕ) → r ≤ k → k < i → row ys k ≡ row xs (k + 1)) → row ys (i + 1) ≡ row xs (i + 1) →
-    (k : ℕ) → r ≤ k → k < i + 1 → row (set ys i (row ys (i + 1))) k ≡ row xs (k + 1)
-close_step xs ys r i room done next k a b =
-    elim (cases_lt k i) [
-      | inl lt ↦ get_or-set_other ys i k _ blank (omega arith) ∙ done k a lt
-      | inr ge ↦ let e : k ≡ i = omega arith in rw (e, get_or-set_same ys i (row ys (i + 1)) blank room) next
-    ]
+-- rows that rise are parted by any rank
+pub rows_parted : (xs : List Row) (n k : ℕ) → n ≤ length xs → Ordered xs n → IsPartitionedBy (λ b. ltb (rank b) k) (take n xs)
+rows_parted xs n k room o i j d l m h =
+    ap (λ b. ltb (rank b) k) (at i (omega arith)) ∙ lt-ltb (rank (row xs i)) k (omega (arith, rises, ltb-true (rank (row xs j)) k (ap (λ b. ltb (rank b) k) (sym (at j m)) ∙ h)))
+  where
+    low : (i : ℕ) → i < length (take n xs) → i < n
+    low i l = omega (arith, length-take-le n xs room)
+
+    at : (i : ℕ) → i < length (take n xs) → get_or (take n xs) i d ≡ row xs i
+    at i l = get_or_default (take n xs) i d blank l ∙ get_or-take n xs i blank (low i l)
+
+    rises : rank (row xs i) ≤ rank (row xs j)
+    rises =
+        elim (cases_lt i j) [
+          | inl lt ↦ let r = o.rising i j lt (low j m) in omega arith
+          | inr ge ↦ let e : i ≡ j = omega arith in omega (arith, ap (λ k. rank (row xs k)) e)
+        ]
+
+-- the rows from r on copied one place up
+pub opened_of : (xs ys : List Row) (r n : ℕ) → r ≤ n → CopiedTo xs ys r (r + 1) (n - r) → SameBelow xs ys (r + 1) → Opened xs ys r n
+opened_of xs ys r n most copied below =
+    record {
+      below = λ k l. below k blank (omega arith);
+      above = λ k l m. copied (k + 1) blank (omega arith) (omega arith) ∙ (let e : r + (k + 1 - (r + 1)) ≡ k = omega arith in ap (row xs) e);
+    }
+
+-- the rows behind r copied one place down
+pub closed_of : (xs ys : List Row) (r n : ℕ) → r < n → CopiedTo xs ys (r + 1) r (n - (r + 1)) → SameBelow xs ys r → Closed xs ys r n
+closed_of xs ys r n inside copied below =
+    record {
+      inside = inside;
+      below = λ k l. below k blank l;
+      above = λ k l m. copied k blank l (omega arith) ∙ (let e : r + 1 + (k - r) ≡ k + 1 = omega arith in ap (row xs) e);
+    }
 
 -- of the first i rows m are kept, and the row i is looked at
-module _ (xs ys : List Binding) (n i m z : ℕ) (o : Ordered xs n) (li : i < n) (kept : Kept xs ys i m z) (rest : (k : ℕ) → i ≤ k → row ys k ≡ row xs k) where
+module _ (xs ys : List Row) (n i m z : ℕ) (o : Ordered xs n) (li : i < n) (kept : Kept xs ys i m z) (rest : (k : ℕ) → i ≤ k → row ys k ≡ row xs k) where
   -- a row of the requirer z is left out
   pub keep_not : (row ys i).requirer ≡ z → Kept xs ys (i + 1) m z
   keep_not is =
@@ -33,14 +67,14 @@ module _ (xs ys : List Binding) (n i m z : ℕ) (o : Ordered xs n) (li : i < n) 
         from = λ j l. let r = kept.from j l in ((r.0.0, omega (arith, r.0.1), r.0.2), r.1);
         all = λ k l ne. elim (cases_lt k i) [
           | inl lt ↦ kept.all k lt ne
-          | inr ge ↦ let e : k ≡ i = omega arith in absurd (ne (ap (λ j. (row xs j).requirer) e ∙ ap (λ (b : Binding). b.requirer) (sym (rest i (omega arith))) ∙ is))
+          | inr ge ↦ let e : k ≡ i = omega arith in absurd (ne (ap (λ j. (row xs j).requirer) e ∙ ap (λ (b : Row). b.requirer) (sym (rest i (omega arith))) ∙ is))
         ];
         ordered = kept.ordered;
       }
 
   -- any other row is kept
   module _ (room : i < length ys) (ne : (row ys i).requirer ≢ z) where
-    abbrev after : List Binding
+    abbrev after : List Row
     after = set ys m (row ys i)
 
     new : row after m ≡ row xs i

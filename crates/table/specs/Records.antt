@@ -1,39 +1,15 @@
--- What the records stand for, and what an order's work on them asks and does.
-use Rattle.std.specs.Prelude.{◌≡◌, ℕ, ◌<◌, ◌≤◌, true, false, cond, List, length, None, Option, nat_lt, slice_index_or}
-use Rattle.model.specs.declared.pair.Pair.{Pair}
+-- The configuration of records, and what the work of an order on them asks.
+use Rattle.std.specs.Prelude.{◌≡◌, ◌<◌, true, false}
 use Rattle.model.specs.declared.order.Order.{Order}
 use Rattle.model.specs.declared.order.Order.TheVariants.{Create, Bind, Change, Unbind, Delete}
 use Rattle.model.specs.Config.{Config, stands}
-use Rattle.model.specs.Orders.{result_of}
-use Rattle.model.specs.Counts.{instances, bindings}
-use Rattle.table.specs.declared.records.Slot.{Slot}
+use Rattle.model.specs.Counts.{bindings}
 use Rattle.table.specs.declared.records.Records.{Records}
-use Rattle.table.specs.Rows.{held, Ordered}
-
--- a slot in which nothing stands
-abbrev pub vacant : Slot
-vacant = record { pair = None }
-
--- what stands under the number z
-abbrev pub standing : List Slot → ℕ → Option Pair
-standing slots z = cond (nat_lt z 256) (slice_index_or slots z vacant).pair None
+use Rattle.table.specs.Fit.{config}
 
 -- the configuration that the records stand for
 abbrev pub config_of : Records → Config
-config_of t = record { inst = standing t.slots; bound = held t.rows t.len }
-
--- what holds of the records at all times: full arrays, rows that rise, and a right count of the instances
-pub record Fit (t : Records) : Type 0 where
-  pub sized : length t.slots ≡ 256
-  pub room : length t.rows ≡ 2048
-  pub most : t.len ≤ 2048
-  pub ordered : Ordered t.rows t.len
-  pub counted : t.count ≡ instances 256 (config_of t)
-
--- the work of an order is done
-pub record Done (o : Order) (b a : Records) : Type 0 where
-  pub fit : Fit a
-  pub config : config_of a ≡ result_of o (config_of b)
+config_of t = config t.slots t.rows t.len
 
 -- what the work of an order asks: numbers in range, room, and what it makes or ends not there or there
 abbrev pub Able : Config → Order → Type 0

@@ -2,6 +2,8 @@
 #![tactic(auto)]
 
 pub mod limits;
+mod orders;
 mod records;
 mod rows;
 pub mod table;
+mod work;

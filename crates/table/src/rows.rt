@@ -1,32 +1,41 @@
-// Records of bindings, kept in rising order of provider, requirer and port.
-ghost use Rattle.std.specs.Prelude.{◌≡◌, ◌<◌, ◌≤◌, ◌&&◌, length, ◌==◌, nat_lt};
-ghost use Rattle.table.specs.Rows.{binding_of, row, rank as rank_of, Ordered, Place, Opened, Closed, Kept};
+// Rows: bindings as the records hold them, in rising order of provider, requirer and port.
+ghost use Rattle.std.specs.Prelude.{◌≡◌, ◌<◌, ◌≤◌, ◌==◌, length};
+ghost use Rattle.table.specs.Rows.{row_of, rank as rank_of, Kept, Ordered};
+
+use model::binding::Binding;
 
 #[derive(Clone, Copy)]
-pub struct Binding {
+pub struct Row {
     pub provider: u8,
     pub requirer: u8,
     pub port: u8,
 }
 
-impl Binding {
-    // The binding on the port from the provider to the requirer.
-    pub(crate) fn new(port: u32, provider: u32, requirer: u32) -> Binding
-        requires { (port < 32) × ((provider < 256) × (requirer < 256)) }
-        ensures { result ≡ binding_of port provider requirer }
+// What the rows hold behind their end.
+pub(crate) const BLANK_ROW: Row = Row {
+    provider: 0,
+    requirer: 0,
+    port: 0,
+};
+
+impl Row {
+    // The row of a binding whose numbers are in range; `TryFrom` would have an error where none can come.
+    pub(crate) fn of(binding: Binding) -> Row
+        requires { (binding.port < 32) × ((binding.provider < 256) × (binding.requirer < 256)) }
+        ensures { result ≡ row_of binding.port binding.provider binding.requirer }
     {
-        Binding {
-            provider: provider as u8,
-            requirer: requirer as u8,
-            port: port as u8,
+        Row {
+            provider: binding.provider as u8,
+            requirer: binding.requirer as u8,
+            port: binding.port as u8,
         }
     }
 
-    // Its number in the order of the rows.
+    // Its number in the order of the rows, which a search compares at once, and not field by field.
     pub fn rank(self) -> u32
         ensures { result ≡ rank_of self }
     {
-        self.provider as u32 * 8192 + self.requirer as u32 * 32 + self.port as u32
+        u32::from(self.provider) * 8192 + u32::from(self.requirer) * 32 + u32::from(self.port)
     }
 
     // Whether its requirer is this instance.
@@ -37,72 +46,17 @@ impl Binding {
     }
 }
 
-// Where a row of this rank stands among the first `len`, or would stand.
-pub(crate) fn place_of(rows: &[Binding], len: usize, rank: u32) -> usize
-    requires len_in_bounds { len ≤ length rows.now }
-    requires ordered { Ordered rows.now len }
-    ensures { Place rows.now len rank result }
-{
-    let mut low = 0;
-    let mut high = len;
-    while low < high {
-        let middle = low + (high - low) / 2;
-        if rows[middle].rank() < rank {
-            low = middle + 1;
-        } else {
-            high = middle;
-        }
-    }
-    low
-}
-
-// Whether a row of this rank stands at `place`, among the first `len`.
-pub(crate) fn is_at(rows: &[Binding], len: usize, place: usize, rank: u32) -> bool
-    requires { len ≤ length rows.now }
-    ensures { result ≡ (nat_lt place len && rank_of (row rows.now place) == rank) }
-{
-    place < len && rows[place].rank() == rank
-}
-
-// Whether a row of this provider stands at `place`, among the first `len`.
-pub(crate) fn is_from(rows: &[Binding], len: usize, place: usize, provider: u32) -> bool
-    requires { len ≤ length rows.now }
-    ensures { result ≡ (nat_lt place len && (row rows.now place).provider == provider) }
-{
-    place < len && rows[place].provider as u32 == provider
-}
-
-// Moves the rows from `at` on up by one place.
-pub(crate) fn open_at(rows: &mut [Binding], at: usize, len: usize)
-    requires { (at ≤ len) × (len < length rows.old) }
-    ensures { Opened rows.old rows.new at len }
-{
-    let mut i = len;
-    while i > at {
-        rows[i] = rows[i - 1];
-        i -= 1;
-    }
-}
-
-// Moves the rows behind `at` down by one place.
-pub(crate) fn close_at(rows: &mut [Binding], at: usize, len: usize)
-    requires { (at < len) × (len ≤ length rows.old) }
-    ensures { Closed rows.old rows.new at len }
-{
-    for i in at..len - 1 {
-        rows[i] = rows[i + 1];
-    }
-}
-
-// Leaves out the rows whose requirer is `z`, and answers how many are left.
-pub(crate) fn keep_others(rows: &mut [Binding], len: usize, z: u8) -> usize
-    requires len_in_bounds { len ≤ length rows.old }
+// Leaves out those of the first `len` rows whose requirer is the instance, and answers how many are left at the front.
+// Only a `Vec` has `retain`, so the places are counted here; and `&mut self.rows[..self.len]` cannot be lent yet by a struct
+// with a ghost field (the borrow checker has no rule for it), so the number goes beside the rows.
+pub(crate) fn keep_others(rows: &mut [Row], len: usize, instance: u8) -> usize
+    requires in_bounds { len ≤ length rows.old }
     requires ordered { Ordered rows.old len }
-    ensures { Kept rows.old rows.new len result z }
+    ensures { Kept rows.old rows.new len result instance }
 {
     let mut left = 0;
     for i in 0..len {
-        if !rows[i].ends_at(z) {
+        if !rows[i].ends_at(instance) {
             rows[left] = rows[i];
             left += 1;
         }

@@ -1,17 +1,31 @@
-use Rattle.std.proofs.Common.{◌≡◌, ◌<◌, length, arith}
-use Rattle.table.proofs.Performed.{bound, len_counts}
+use Rattle.std.proofs.Common.{◌<◌, arith}
+use Rattle.table.proofs.Performed.{bound, bound_fit, len_counts}
 use Rattle.table.proofs.records.Records.bind.Goals as goal
 
-pub open_at-requires : goal.open_at-requires
-open_at-requires c = (c.place_of-place.ensures.most, omega (arith, len_counts c.args.self.now c.requires.fit, c.requires.fit.room))
+pub copy_within-requires-clause-dest_in_bounds : goal.copy_within-requires-clause-dest_in_bounds
+copy_within-requires-clause-dest_in_bounds c =
+    let t = c.args.self.now in
+    omega (arith, len_counts t.slots t.rows t.len t.count t.fit, t.fit.room, c.place_of-place.ensures.most)
 
 pub bounds-self-place : goal.bounds-self-place
-bounds-self-place c = omega (arith, len_counts c.args.self.now c.requires.fit, c.place_of-place.ensures.most)
+bounds-self-place c =
+    let t = c.args.self.now in
+    omega (arith, len_counts t.slots t.rows t.len t.count t.fit, c.place_of-place.ensures.most)
+
+pub invariant_of-self : goal.invariant_of-self
+invariant_of-self c =
+    let t = c.args.self.now in
+    let room : t.len < 2048 = omega (arith, len_counts t.slots t.rows t.len t.count t.fit) in
+    record {
+      fit = bound_fit t.slots t.rows t.len t.count t.fit c.args.row (record { provider = omega arith; requirer = omega arith; port = c.requires.room.0 })
+          c.rank.result c.place_of-place.result c.rank.ensures c.place_of-place.ensures
+          c.copy_within.new.self c.copy_within.ensures.len c.copy_within.ensures.by_index.0 c.copy_within.ensures.by_index.1 room c.requires.unbound;
+    }
 
 pub returns : goal.returns
 returns c =
-    let size : length c.open_at.new.rows ≡ length c.args.self.now.rows = omega arith in
-    let room : c.args.self.now.len < 2048 = omega (arith, len_counts c.args.self.now c.requires.fit) in
-    bound c.args.self.now c.requires.fit c.args.binding (record { provider = omega arith; requirer = omega arith; port = c.requires.room.0 })
+    let t = c.args.self.now in
+    let room : t.len < 2048 = omega (arith, len_counts t.slots t.rows t.len t.count t.fit) in
+    bound t.slots t.rows t.len t.count t.fit c.args.row (record { provider = omega arith; requirer = omega arith; port = c.requires.room.0 })
     c.rank.result c.place_of-place.result c.rank.ensures c.place_of-place.ensures
-    c.open_at.new.rows size c.open_at.ensures room c.requires.unbound
+    c.copy_within.new.self c.copy_within.ensures.len c.copy_within.ensures.by_index.0 c.copy_within.ensures.by_index.1 room c.requires.unbound

@@ -2,4 +2,4 @@ use Rattle.table.proofs.Performed.{len_counts}
 use Rattle.table.proofs.records.Records.bindings.Goals as goal
 
 pub returns : goal.returns
-returns c = len_counts c.args.self.now c.requires
+returns c = let t = c.args.self.now in len_counts t.slots t.rows t.len t.count t.fit

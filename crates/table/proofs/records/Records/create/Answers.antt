@@ -1,9 +1,14 @@
 use Rattle.std.proofs.Common.{arith}
-use Rattle.table.proofs.Performed.{count_most, created}
+use Rattle.table.proofs.Performed.{count_most, created, created_fit}
 use Rattle.table.proofs.records.Records.create.Goals as goal
 
 pub overflow_add-self : goal.overflow_add-self
-overflow_add-self c = omega (arith, count_most c.args.self.now c.requires.fit)
+overflow_add-self c = let t = c.args.self.now in omega (arith, count_most t.slots t.rows t.len t.count t.fit)
+
+pub invariant_of-self : goal.invariant_of-self
+invariant_of-self c =
+    let t = c.args.self.now in
+    record { fit = created_fit t.slots t.rows t.len t.count t.fit c.args.instance c.requires.0 c.args.kind c.requires.1 }
 
 pub returns : goal.returns
-returns c = created c.args.self.now c.requires.fit c.args.instance c.requires.free.0 c.args.kind c.requires.free.1
+returns c = let t = c.args.self.now in created t.slots t.rows t.len t.count t.fit c.args.instance c.requires.0 c.args.kind c.requires.1

@@ -1,11 +1,24 @@
 use Rattle.std.proofs.Common.{◌≡◌, length, arith}
-use Rattle.table.proofs.Performed.{count_some, deleted}
+use Rattle.table.proofs.Performed.{count_some, deleted, deleted_fit}
 use Rattle.table.proofs.records.Records.delete.Goals as goal
 
 pub overflow_sub-self : goal.overflow_sub-self
-overflow_sub-self c = count_some c.args.self.now c.requires.fit c.args.instance (omega arith) c.requires.standing
+overflow_sub-self c =
+    let t = c.args.self.now in
+    count_some t.slots t.rows t.len t.count t.fit c.args.instance (omega arith) c.requires
+
+pub invariant_of-self : goal.invariant_of-self
+invariant_of-self c =
+    let t = c.args.self.now in
+    let ys = c.keep_others-self.new.rows in
+    let size : length ys ≡ length t.rows = omega arith in
+    record {
+      fit = rw c.from.ensures (deleted_fit t.slots t.rows t.len t.count t.fit c.args.instance (omega arith) c.requires ys c.keep_others-self.result size c.keep_others-self.ensures);
+    }
 
 pub returns : goal.returns
 returns c =
-    let size : length c.keep_others-self.new.rows ≡ length c.args.self.now.rows = omega arith in
-    deleted c.args.self.now c.requires.fit c.args.instance (omega arith) c.requires.standing c.keep_others-self.new.rows c.keep_others-self.result size c.keep_others-self.ensures
+    let t = c.args.self.now in
+    let ys = c.keep_others-self.new.rows in
+    let size : length ys ≡ length t.rows = omega arith in
+    rw c.from.ensures (deleted t.slots t.rows t.len t.count t.fit c.args.instance (omega arith) c.requires ys c.keep_others-self.result size c.keep_others-self.ensures)

@@ -1,17 +1,35 @@
-use Rattle.std.proofs.Common.{◌≡◌, length, arith}
-use Rattle.table.proofs.Performed.{row_at, unbound}
+use Rattle.std.proofs.Common.{arith}
+use Rattle.table.proofs.Performed.{row_at, unbound, unbound_fit}
 use Rattle.table.proofs.records.Records.unbind.Goals as goal
 
-pub close_at-requires : goal.close_at-requires
-close_at-requires c =
+pub copy_within-requires-clause-start_le_end : goal.copy_within-requires-clause-start_le_end
+copy_within-requires-clause-start_le_end c =
+    let t = c.args.self.now in
     let at =
-    row_at c.args.self.now c.requires.fit c.args.binding (record { provider = omega arith; requirer = omega arith; port = c.requires.in_range })
+    row_at t.slots t.rows t.len t.count t.fit c.args.row (record { provider = omega arith; requirer = omega arith; port = c.requires.in_range })
     c.rank.result c.place_of-place.result c.rank.ensures c.place_of-place.ensures c.requires.standing in
-    (at.0, omega (arith, c.requires.fit.most, c.requires.fit.room))
+    omega (arith, at.0)
+
+pub overflow_sub-self : goal.overflow_sub-self
+overflow_sub-self c =
+    let t = c.args.self.now in
+    let at =
+    row_at t.slots t.rows t.len t.count t.fit c.args.row (record { provider = omega arith; requirer = omega arith; port = c.requires.in_range })
+    c.rank.result c.place_of-place.result c.rank.ensures c.place_of-place.ensures c.requires.standing in
+    omega (arith, at.0)
+
+pub invariant_of-self : goal.invariant_of-self
+invariant_of-self c =
+    let t = c.args.self.now in
+    record {
+      fit = unbound_fit t.slots t.rows t.len t.count t.fit c.args.row (record { provider = omega arith; requirer = omega arith; port = c.requires.in_range })
+          c.rank.result c.place_of-place.result c.rank.ensures c.place_of-place.ensures c.requires.standing
+          c.copy_within.new.self c.copy_within.ensures.len c.copy_within.ensures.by_index.0 c.copy_within.ensures.by_index.1;
+    }
 
 pub returns : goal.returns
 returns c =
-    let size : length c.close_at.new.rows ≡ length c.args.self.now.rows = omega arith in
-    unbound c.args.self.now c.requires.fit c.args.binding (record { provider = omega arith; requirer = omega arith; port = c.requires.in_range })
+    let t = c.args.self.now in
+    unbound t.slots t.rows t.len t.count t.fit c.args.row (record { provider = omega arith; requirer = omega arith; port = c.requires.in_range })
     c.rank.result c.place_of-place.result c.rank.ensures c.place_of-place.ensures c.requires.standing
-    c.close_at.new.rows size c.close_at.ensures
+    c.copy_within.new.self c.copy_within.ensures.len c.copy_within.ensures.by_index.0 c.copy_within.ensures.by_index.1

@@ -1,0 +1,27 @@
+-- What the arrays and numbers of the records stand for, and what holds of them at all times.
+use Rattle.std.specs.Prelude.{◌≡◌, ℕ, ◌<◌, ◌≤◌, cond, List, length, None, Option, nat_lt, slice_index_or}
+use Rattle.model.specs.declared.pair.Pair.{Pair}
+use Rattle.model.specs.Config.{Config}
+use Rattle.model.specs.Counts.{instances}
+use Rattle.table.specs.declared.rows.Row.{Row}
+use Rattle.table.specs.Rows.{held, row, Ordered}
+
+-- what stands under the number z
+abbrev pub standing : List (Option Pair) → ℕ → Option Pair
+standing slots z = cond (nat_lt z 256) (slice_index_or slots z None) None
+
+-- the configuration of slots and of the first n rows
+abbrev pub config : List (Option Pair) → List Row → ℕ → Config
+config slots rows n = record { inst = standing slots; bound = held rows n }
+
+-- full arrays, rows that rise, and a right count of the instances
+pub record Fit (slots : List (Option Pair)) (rows : List Row) (len count : ℕ) : Type 0 where
+  pub sized : length slots ≡ 256
+  pub room : length rows ≡ 2048
+  pub most : len ≤ 2048
+  pub ordered : Ordered rows len
+  pub counted : count ≡ instances 256 (config slots rows len)
+
+-- the ports of the first n rows are below m
+abbrev pub Ranged : ℕ → List Row → ℕ → Type 0
+Ranged m rows n = (i : ℕ) → i < n → (row rows i).port < m

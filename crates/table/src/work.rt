@@ -1,0 +1,146 @@
+// What the records tell, and the work of the orders on them.
+ghost use Rattle.std.specs.Prelude.{◌≡◌, ◌<◌, true, false};
+ghost use Rattle.model.specs.declared.order.Order.TheVariants.{Create, Bind, Change, Unbind, Delete};
+ghost use Rattle.model.specs.Config.{empty, stands};
+ghost use Rattle.model.specs.Counts.{instances, bindings};
+ghost use Rattle.model.specs.Orders.{result_of};
+ghost use Rattle.hosts.specs.Offences.{provider_test};
+ghost use Rattle.table.specs.Rows.{Place, binding_of};
+ghost use Rattle.table.specs.Records.{Able, config_of};
+
+use crate::records::Records;
+use crate::rows::{BLANK_ROW, Row, keep_others};
+use model::binding::Binding;
+use model::order::Order;
+use model::pair::Pair;
+
+impl Records {
+    // Nothing stands.
+    pub(crate) fn empty() -> Records
+        ensures config { config_of result ≡ empty }
+        ensures none { result.len ≡ 0 }
+    {
+        Records {
+            slots: [None; 256],
+            rows: [BLANK_ROW; 2048],
+            len: 0,
+            count: 0,
+        }
+    }
+
+    // What stands under a number, which may be nothing.
+    pub(crate) fn at(&self, instance: u32) -> Option<Pair>
+        ensures { result ≡ (config_of self.now).inst instance }
+    {
+        *self.slots.get(instance as usize)?
+    }
+
+    // How many instances stand.
+    pub(crate) fn instances(&self) -> u32
+        ensures { result ≡ instances 256 (config_of self.now) }
+    {
+        self.count
+    }
+
+    // How many bindings stand.
+    pub(crate) fn bindings(&self) -> u32
+        ensures { result ≡ bindings 32 256 (config_of self.now) }
+    {
+        self.len as u32
+    }
+
+    // Where a row of this rank stands, or would stand.
+    fn place_of(&self, rank: u32) -> usize
+        ensures { Place self.now.rows self.now.len rank result }
+    {
+        self.rows[..self.len].partition_point(|row| row.rank() < rank)
+    }
+
+    // Whether the binding stands.
+    pub(crate) fn is_bound(&self, binding: Binding) -> bool
+        ensures { result ≡ (config_of self.now).bound binding.port binding.provider binding.requirer }
+    {
+        if binding.port > 31 || binding.provider > 255 || binding.requirer > 255 {
+            return false;
+        }
+        let rank = Row::of(binding).rank();
+        let place = self.place_of(rank);
+        place < self.len && self.rows[place].rank() == rank
+    }
+
+    // Whether some binding has this instance as its provider.
+    pub(crate) fn is_provider(&self, instance: u32) -> bool
+        ensures { result ≡ provider_test (config_of self.now) instance }
+    {
+        if instance > 255 {
+            return false;
+        }
+        let place = self.place_of(instance * 8192);
+        place < self.len && u32::from(self.rows[place].provider) == instance
+    }
+
+    // An instance of the type, in its state 0.
+    pub(crate) fn create(&mut self, instance: u32, kind: u8)
+        requires { (instance < 256) × (stands ((config_of self.old).inst instance) ≡ false) }
+        ensures { config_of self.new ≡ result_of (Create instance kind) (config_of self.old) }
+    {
+        self.slots[instance as usize] = Some(Pair { kind, state: 0 });
+        self.count += 1;
+    }
+
+    // What stands under the number is in the state.
+    pub(crate) fn change(&mut self, instance: u32, state: u8)
+        requires { instance < 256 }
+        ensures { config_of self.new ≡ result_of (Change instance state) (config_of self.old) }
+    {
+        let place = instance as usize;
+        self.slots[place] = self.slots[place].map(|pair| Pair { state, ..pair });
+    }
+
+    // A binding more.
+    pub(crate) fn bind(&mut self, row: Row)
+        requires room { (row.port < 32) × (bindings 32 256 (config_of self.old) < 2048) }
+        requires unbound { (config_of self.old).bound row.port row.provider row.requirer ≡ false }
+        ensures { config_of self.new ≡ result_of (Bind (binding_of row)) (config_of self.old) }
+    {
+        let place = self.place_of(row.rank());
+        self.rows.copy_within(place..self.len, place + 1);
+        self.rows[place] = row;
+        self.len += 1;
+    }
+
+    // A binding less.
+    pub(crate) fn unbind(&mut self, row: Row)
+        requires in_range { row.port < 32 }
+        requires standing { (config_of self.old).bound row.port row.provider row.requirer ≡ true }
+        ensures { config_of self.new ≡ result_of (Unbind (binding_of row)) (config_of self.old) }
+    {
+        let place = self.place_of(row.rank());
+        self.rows.copy_within(place + 1..self.len, place);
+        self.len -= 1;
+    }
+
+    // An instance less, and with it the bindings of which it is the requirer.
+    pub(crate) fn delete(&mut self, instance: u8)
+        requires { stands ((config_of self.old).inst instance) ≡ true }
+        ensures { config_of self.new ≡ result_of (Delete instance) (config_of self.old) }
+    {
+        self.slots[usize::from(instance)] = None;
+        self.count -= 1;
+        self.len = keep_others(&mut self.rows, self.len, instance);
+    }
+
+    // The work of an order.
+    pub(crate) fn perform(&mut self, order: Order)
+        requires { Able (config_of self.old) order }
+        ensures { config_of self.new ≡ result_of order (config_of self.old) }
+    {
+        match order {
+            Order::Create { instance, kind } => self.create(instance, kind as u8),
+            Order::Bind(binding) => self.bind(Row::of(binding)),
+            Order::Change { instance, state } => self.change(instance, state as u8),
+            Order::Unbind(binding) => self.unbind(Row::of(binding)),
+            Order::Delete { instance } => self.delete(instance as u8),
+        }
+    }
+}
