@@ -10,7 +10,7 @@ use Rattle.hosts.proofs.Deciding.{put_off_or_not}
 use Rattle.hosts.proofs.Growing.{growth_law}
 use Rattle.table.specs.Table.{Held, applied, load_of, table_rule}
 use Rattle.table.proofs.Applying.{no_offence}
-use Rattle.cloud.specs.Cloud.{CloudState, cloud_after, cloud_answer, cloud_rule, meaning_of}
+use Rattle.cloud.specs.Cloud.{CloudState, Takes, cloud_after, cloud_answer, cloud_rule, meaning_of}
 
 -- whether there is room does not hang on waits
 full_same : (o : Order) (h : Held) (w : ℕ) → full_test o (load_of 0 h) ≡ full_test o (load_of w h)
@@ -64,6 +64,5 @@ answers o k law =
           })
     ]
 
-pub served : (o : Order) (k k' : CloudState) (r : Answer) → Lawful k.held.situation →
-    r ≡ cloud_answer (cloud_rule o k) → k' ≡ cloud_after o k → Answered o (meaning_of k) (meaning_of k') r
-served o k k' r law e f = rw (e, f) (answers o k law)
+pub served : (o : Order) (k k' : CloudState) (r : Answer) → Lawful k.held.situation → Takes o k k' r → Answered o (meaning_of k) (meaning_of k') r
+served o k k' r law t = rw (t.answer, t.after) (answers o k law)

@@ -1,38 +1,39 @@
 // The simulated cloud.
 #![tactic(auto)]
 
-ghost use Rattle.std.specs.Prelude.{◌≡◌, ◌≤◌, min};
+ghost use Rattle.std.specs.Prelude.{◌≡◌, min};
 ghost use Rattle.std.proofs.Common.{lit≤};
 ghost use Rattle.model.specs.declared.order.Order.TheVariants.{Create, Bind, Change, Unbind, Delete};
 ghost use Rattle.model.specs.Config.{empty};
 ghost use Rattle.universe.specs.Tables.{universe_of};
-ghost use Rattle.universe.proofs.Sounds.{sound};
-ghost use Rattle.hosts.specs.Answers.{Answered};
-ghost use Rattle.table.specs.Table.{lawful_of, situation_of};
-ghost use Rattle.cloud.specs.Cloud.{cloud_after, cloud_answer, cloud_of, cloud_rule, meaning_of, service_of};
+ghost use Rattle.hosts.specs.Answers.{Gives};
+ghost use Rattle.table.specs.Table.{lawful_of};
+ghost use Rattle.cloud.specs.Cloud.{Takes, cloud_of, cloud_service, cloud_situation};
 
+mod state;
+
+pub use crate::state::Cloud;
 use hosts::host::Host;
 use hosts::refusal::{Reason, Refusal};
 use hosts::survey::Survey;
+use model::binding::Binding;
 use model::order::Order;
 use model::pair::Pair;
 use table::limits::Limits;
 use table::table::Table;
 use universe::held::Universe;
 
-// A table, how many of the coming orders are put off, and how many after each order that is not.
-#[derive(Drop)]
-pub struct Cloud {
-    table: Table,
-    waits: u32,
-    delay: u32,
-    ghost bounds: { waits ≤ delay },
+// A refusal by the cloud, which stands at the bottom.
+fn at_bottom(reason: Reason) -> Refusal
+    ensures { result ≡ record { reason = reason; height = 0 } }
+{
+    Refusal { reason, height: 0 }
 }
 
 impl Cloud {
     // An empty cloud of the universe. Limits above 256 and 2048 and delays above 8 count as these.
     pub fn open(universe: Universe, limits: Limits, delay: u32) -> Self
-        ensures { cloud_of result.table result.waits result.delay ≡ record { held = record { situation = record { universe = universe_of universe.tables; config = empty }; limits = record { instances = min limits.instances 256; bindings = min limits.bindings 2048 } }; waits = min delay 8; delay = min delay 8 } }
+        ensures { cloud_of result ≡ record { held = record { situation = record { universe = universe_of universe.tables; config = empty }; limits = record { instances = min limits.instances 256; bindings = min limits.bindings 2048 } }; waits = min delay 8; delay = min delay 8 } }
     {
         let delay = delay.min(8);
         Cloud {
@@ -44,28 +45,22 @@ impl Cloud {
 
     // Takes an order.
     fn take(&mut self, order: Order) -> Result<(), Refusal>
-        ensures answer { result ≡ cloud_answer (cloud_rule order (cloud_of self.old.table self.old.waits self.old.delay)) }
-        ensures after { cloud_of self.new.table self.new.waits self.new.delay ≡ cloud_after order (cloud_of self.old.table self.old.waits self.old.delay) }
+        ensures answered { Gives cloud_situation cloud_service order self.old self.new result }
+        ensures taken { Takes order (cloud_of self.old) (cloud_of self.new) result }
     {
         if self.waits > 0 {
             self.waits -= 1;
-            return Err(Refusal {
-                reason: Reason::Busy,
-                height: 0,
-            });
+            return Err(at_bottom(Reason::Busy));
         }
         self.waits = self.delay;
-        match self.table.apply(order) {
-            Ok(()) => Ok(()),
-            Err(reason) => Err(Refusal { reason, height: 0 }),
-        }
+        self.table.apply(order).map_err(at_bottom)
     }
 }
 
 impl Survey for Cloud {
-    ghost situation = { λ s. situation_of s.table.universe.tables s.table.records };
+    ghost situation = { cloud_situation };
 
-    ghost lawful = { λ s. lawful_of s.table.universe.tables s.table.records (sound s.table.universe.tables s.table.universe.sound).valid s.table.ranged };
+    ghost lawful = { λ s. lawful_of s.table };
 
     fn universe(&self) -> &Universe {
         self.table.universe()
@@ -75,8 +70,8 @@ impl Survey for Cloud {
         self.table.at(instance)
     }
 
-    fn is_bound(&self, port: u32, provider: u32, requirer: u32) -> bool {
-        self.table.is_bound(port, provider, requirer)
+    fn is_bound(&self, binding: Binding) -> bool {
+        self.table.is_bound(binding)
     }
 
     fn instances(&self) -> u32 {
@@ -89,7 +84,7 @@ impl Survey for Cloud {
 }
 
 impl Host for Cloud {
-    ghost service = { λ s. service_of (cloud_of s.table s.waits s.delay) };
+    ghost service = { cloud_service };
 
     ghost sane = { λ s. record { waits = s.bounds; height = lit≤ tt } };
 
@@ -118,49 +113,36 @@ impl Host for Cloud {
     }
 
     fn create(&mut self, instance: u32, kind: u32) -> Result<(), Refusal>
-        ensures answered { Answered (Create instance kind) (meaning_of (cloud_of self.old.table self.old.waits self.old.delay)) (meaning_of (cloud_of self.new.table self.new.waits self.new.delay)) result }
-        ensures answer { result ≡ cloud_answer (cloud_rule (Create instance kind) (cloud_of self.old.table self.old.waits self.old.delay)) }
-        ensures after { cloud_of self.new.table self.new.waits self.new.delay ≡ cloud_after (Create instance kind) (cloud_of self.old.table self.old.waits self.old.delay) }
+        ensures answered { Gives cloud_situation cloud_service (Create instance kind) self.old self.new result }
+        ensures taken { Takes (Create instance kind) (cloud_of self.old) (cloud_of self.new) result }
     {
         self.take(Order::Create { instance, kind })
     }
 
-    fn bind(&mut self, port: u32, provider: u32, requirer: u32) -> Result<(), Refusal>
-        ensures answered { Answered (Bind port provider requirer) (meaning_of (cloud_of self.old.table self.old.waits self.old.delay)) (meaning_of (cloud_of self.new.table self.new.waits self.new.delay)) result }
-        ensures answer { result ≡ cloud_answer (cloud_rule (Bind port provider requirer) (cloud_of self.old.table self.old.waits self.old.delay)) }
-        ensures after { cloud_of self.new.table self.new.waits self.new.delay ≡ cloud_after (Bind port provider requirer) (cloud_of self.old.table self.old.waits self.old.delay) }
+    fn bind(&mut self, binding: Binding) -> Result<(), Refusal>
+        ensures answered { Gives cloud_situation cloud_service (Bind binding) self.old self.new result }
+        ensures taken { Takes (Bind binding) (cloud_of self.old) (cloud_of self.new) result }
     {
-        self.take(Order::Bind {
-            port,
-            provider,
-            requirer,
-        })
+        self.take(Order::Bind(binding))
     }
 
     fn change(&mut self, instance: u32, state: u32) -> Result<(), Refusal>
-        ensures answered { Answered (Change instance state) (meaning_of (cloud_of self.old.table self.old.waits self.old.delay)) (meaning_of (cloud_of self.new.table self.new.waits self.new.delay)) result }
-        ensures answer { result ≡ cloud_answer (cloud_rule (Change instance state) (cloud_of self.old.table self.old.waits self.old.delay)) }
-        ensures after { cloud_of self.new.table self.new.waits self.new.delay ≡ cloud_after (Change instance state) (cloud_of self.old.table self.old.waits self.old.delay) }
+        ensures answered { Gives cloud_situation cloud_service (Change instance state) self.old self.new result }
+        ensures taken { Takes (Change instance state) (cloud_of self.old) (cloud_of self.new) result }
     {
         self.take(Order::Change { instance, state })
     }
 
-    fn unbind(&mut self, port: u32, provider: u32, requirer: u32) -> Result<(), Refusal>
-        ensures answered { Answered (Unbind port provider requirer) (meaning_of (cloud_of self.old.table self.old.waits self.old.delay)) (meaning_of (cloud_of self.new.table self.new.waits self.new.delay)) result }
-        ensures answer { result ≡ cloud_answer (cloud_rule (Unbind port provider requirer) (cloud_of self.old.table self.old.waits self.old.delay)) }
-        ensures after { cloud_of self.new.table self.new.waits self.new.delay ≡ cloud_after (Unbind port provider requirer) (cloud_of self.old.table self.old.waits self.old.delay) }
+    fn unbind(&mut self, binding: Binding) -> Result<(), Refusal>
+        ensures answered { Gives cloud_situation cloud_service (Unbind binding) self.old self.new result }
+        ensures taken { Takes (Unbind binding) (cloud_of self.old) (cloud_of self.new) result }
     {
-        self.take(Order::Unbind {
-            port,
-            provider,
-            requirer,
-        })
+        self.take(Order::Unbind(binding))
     }
 
     fn delete(&mut self, instance: u32) -> Result<(), Refusal>
-        ensures answered { Answered (Delete instance) (meaning_of (cloud_of self.old.table self.old.waits self.old.delay)) (meaning_of (cloud_of self.new.table self.new.waits self.new.delay)) result }
-        ensures answer { result ≡ cloud_answer (cloud_rule (Delete instance) (cloud_of self.old.table self.old.waits self.old.delay)) }
-        ensures after { cloud_of self.new.table self.new.waits self.new.delay ≡ cloud_after (Delete instance) (cloud_of self.old.table self.old.waits self.old.delay) }
+        ensures answered { Gives cloud_situation cloud_service (Delete instance) self.old self.new result }
+        ensures taken { Takes (Delete instance) (cloud_of self.old) (cloud_of self.new) result }
     {
         self.take(Order::Delete { instance })
     }
