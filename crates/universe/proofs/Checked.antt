@@ -73,9 +73,9 @@ header_told bits h e =
 abbrev Any : List ℕ → Type 0
 Any bs = Unit {0}
 
-pub kind_ok : (ports t : ℕ) (bs : List ℕ) (k : Kind) → kind_read ports t bs ≡ Ok k → KindOk ports k
+pub kind_ok : (ports : ℕ) (bs : List ℕ) (k : Kind) → kind_read ports bs ≡ Ok k → KindOk ports k
 unfolding kind_read count_read
-kind_ok ports t bs k h =
+kind_ok ports bs k h =
     let a = then_ok (count_read bs) _ k h in
     let n = a.0 in
     let b = then_ok (many (state_read ports n) state_size 0 n (drop 1 bs)) _ k a.2 in
@@ -192,14 +192,14 @@ pub record FileRead (bs : List ℕ) (u : Tables) : Type 0 where
   pub is : u ≡ tables_of header kinds
   pub long : 2 ≤ length bs
   pub bits : header_of_word (get_or bs 0 0 * 256 + get_or bs 1 0) ≡ Ok header
-  pub row : many (kind_read header.ports) kind_size 0 header.types (drop 2 bs) ≡ Ok kinds
+  pub row : many (λ _. kind_read header.ports) kind_size 0 header.types (drop 2 bs) ≡ Ok kinds
   pub end : 2 + total kind_size kinds ≡ length bs
 
 pub file_read : (bs : List ℕ) (u : Tables) → tables_read bs ≡ Ok u → FileRead bs u
 unfolding tables_read header_read
 file_read bs u h =
     let a = then_ok (header_read bs) _ u h in
-    let b = then_ok (many (kind_read a.0.ports) kind_size 0 a.0.types (drop 2 bs)) _ u a.2 in
+    let b = then_ok (many (λ _. kind_read a.0.ports) kind_size 0 a.0.types (drop 2 bs)) _ u a.2 in
     let d = if_ok (not (eqb (2 + total kind_size b.0) (length bs))) _ (Ok (tables_of a.0 b.0)) u b.2 in
     let l = if_ok (ltb (length bs) 2) _ (header_of_word (get_or bs 0 0 * 256 + get_or bs 1 0)) a.0 a.1 in
     record {
@@ -216,7 +216,7 @@ pub read_sound : (bs : List ℕ) (u : Tables) → tables_read bs ≡ Ok u → So
 read_sound bs u e =
     let f = file_read bs u e in
     let t = header_told (get_or bs 0 0 * 256 + get_or bs 1 0) f.header f.bits in
-    let m = many_each (kind_read f.header.ports) kind_size Any (λ _. KindOk f.header.ports) (λ _ _ x. x) (λ q bs k _ r. kind_ok f.header.ports q bs k r) f.header.types 0 (drop 2 bs) f.kinds tt f.row in
+    let m = many_each (λ _. kind_read f.header.ports) kind_size Any (λ _. KindOk f.header.ports) (λ _ _ x. x) (λ _ bs k _ r. kind_ok f.header.ports bs k r) f.header.types 0 (drop 2 bs) f.kinds tt f.row in
     let types = ap (λ h. h.types) t.0 in
     let ports = ap (λ h. h.ports) t.0 in
     rw f.is (tables_sound f.header f.kinds m.1 (omega (arith, types, t.3)) m.0 (omega (arith, types, t.2)) (omega (arith, ports, t.4)))

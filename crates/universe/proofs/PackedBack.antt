@@ -83,9 +83,9 @@ record Made (k : Kind) : Type 0 where
   pub is : k ≡ kind_of states
   pub each : Each (λ _. Fitting) 0 states
 
-kind_made : (ports t : ℕ) (bs : List ℕ) (k : Kind) → Bytes bs → kind_read ports t bs ≡ Ok k → Made k
+kind_made : (ports : ℕ) (bs : List ℕ) (k : Kind) → Bytes bs → kind_read ports bs ≡ Ok k → Made k
 unfolding kind_read
-kind_made ports t bs k b h =
+kind_made ports bs k b h =
     let a = then_ok (count_read bs) _ k h in
     let d = then_ok (many (state_read ports a.0) state_size 0 a.0 (drop 1 bs)) _ k a.2 in
     let e = many_each (state_read ports a.0) state_size Bytes (λ _. Fitting) bytes_drop (state_fits ports a.0) a.0 0 (drop 1 bs) d.0 (bytes_drop 1 bs b) d.1 in
@@ -96,9 +96,9 @@ unfolding total
 total_states [] = refl
 total_states (s ∷ ss) = let e = total_states ss in omega arith
 
-kind_front : (ports t : ℕ) (bs : List ℕ) (k : Kind) → Bytes bs → kind_read ports t bs ≡ Ok k → bs ≡ kind_bytes k ++ drop (kind_size k) bs
+kind_front : (ports : ℕ) (bs : List ℕ) (k : Kind) → Bytes bs → kind_read ports bs ≡ Ok k → bs ≡ kind_bytes k ++ drop (kind_size k) bs
 unfolding kind_read count_read
-kind_front ports t bs k b h =
+kind_front ports bs k b h =
     let a = then_ok (count_read bs) _ k h in
     let n = a.0 in
     let r = then_ok (many (state_read ports n) state_size 0 n (drop 1 bs)) _ k a.2 in
@@ -154,8 +154,8 @@ packed_back bs u b e =
     let t = header_told (get_or bs 0 0 * 256 + get_or bs 1 0) h f.bits in
     let two = front 2 bs f.long in
     let b2 = bytes_drop 2 bs b in
-    let made = many_each (kind_read h.ports) kind_size Bytes (λ _. Made) bytes_drop (λ q bs k b r. kind_made h.ports q bs k b r) h.types 0 (drop 2 bs) ks b2 f.row in
-    let forms = many_forms (kind_read h.ports) kind_size Bytes kind_bytes bytes_drop (λ q bs k b r. kind_front h.ports q bs k b r) h.types 0 (drop 2 bs) ks b2 f.row in
+    let made = many_each (λ _. kind_read h.ports) kind_size Bytes (λ _. Made) bytes_drop (λ _. kind_made h.ports) h.types 0 (drop 2 bs) ks b2 f.row in
+    let forms = many_forms (λ _. kind_read h.ports) kind_size Bytes kind_bytes bytes_drop (λ _. kind_front h.ports) h.types 0 (drop 2 bs) ks b2 f.row in
     let none : drop (total kind_size ks) (drop 2 bs) ≡ [] = drop-drop (total kind_size ks) 2 bs ∙ drop_all (2 + total kind_size ks) bs (omega (arith, f.end)) in
     let row : drop 2 bs ≡ flat_map kind_bytes ks = forms ∙ (ap (λ l. flat_map kind_bytes ks ++ l) none ∙ append-nil (flat_map kind_bytes ks)) in
     let at : Each (λ t k. kind_at (tables_of h ks) t ≡ k) 0 ks = each_places blank_kind (replicate (16 - length ks) unused_kind) ks [] in

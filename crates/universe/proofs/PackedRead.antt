@@ -92,9 +92,9 @@ count_passes n some few =
     let r : n * 2 ^ 4 % 2 ^ 4 ≡ 0 = omega arith in
     rw (q, r, le-ltb n 1 some, le-ltb 8 n few)
 
-kind_read_lem : (ports t : ℕ) (k : Kind) (rest : List ℕ) → KindOk ports k → (kind_read ports t (kind_bytes k ++ rest) ≡ Ok k) × (drop (kind_size k) (kind_bytes k ++ rest) ≡ rest)
+kind_read_lem : (ports : ℕ) (k : Kind) (rest : List ℕ) → KindOk ports k → (kind_read ports (kind_bytes k ++ rest) ≡ Ok k) × (drop (kind_size k) (kind_bytes k ++ rest) ≡ rest)
 unfolding kind_read count_read
-kind_read_lem ports t k rest ok = (reads, drop_at (kind_bytes k) rest (kind_size k) (kind_length ports k ok))
+kind_read_lem ports k rest ok = (reads, drop_at (kind_bytes k) rest (kind_size k) (kind_length ports k ok))
   where
     ss : List State
     ss = ok.states
@@ -102,7 +102,7 @@ kind_read_lem ports t k rest ok = (reads, drop_at (kind_bytes k) rest (kind_size
     states : many (state_read ports (length ok.states)) state_size 0 (length ok.states) (flat_map state_form ok.states ++ rest) ≡ Ok ok.states
     states = many_reads (state_read ports (length ok.states)) state_size state_form (StateOk ports (length ok.states)) (λ q s rest o. state_read_lem ports (length ok.states) q s rest o) 0 ok.states rest ok.each
 
-    reads : kind_read ports t (kind_bytes k ++ rest) ≡ Ok k
+    reads : kind_read ports (kind_bytes k ++ rest) ≡ Ok k
     reads = rw (ok.is, kept ok.states, le-ltb (suc (length (flat_map state_form ok.states ++ rest))) 1 (omega arith), count_passes (length ok.states) ok.some ok.few, states)
 
 field_none : (w : ℕ) (f : ℕ → Bool) → ((p : ℕ) → f p ≡ false) → field w f ≡ 0
@@ -173,9 +173,9 @@ module _ (u : Universe) (v : Valid u) where
   kinds_length : length kinds_of ≡ u.types
   kinds_length = numbered_length (λ t. kind_of (states_of t)) 0 u.types
 
-  kinds_read : many (kind_read u.ports) kind_size 0 u.types (flat_map kind_bytes kinds_of) ≡ Ok kinds_of
+  kinds_read : many (λ _. kind_read u.ports) kind_size 0 u.types (flat_map kind_bytes kinds_of) ≡ Ok kinds_of
   kinds_read =
-      let r = many_reads (kind_read u.ports) kind_size kind_bytes (λ _. KindOk u.ports) (kind_read_lem u.ports) 0 kinds_of [] kinds_valid in
+      let r = many_reads (λ _. kind_read u.ports) kind_size kind_bytes (λ _. KindOk u.ports) (λ _. kind_read_lem u.ports) 0 kinds_of [] kinds_valid in
       (rw (kinds_length, append-nil (flat_map kind_bytes kinds_of)) at r)
 
   pub packed_read : tables_read (packed_form u) ≡ Ok (tables_of header kinds_of)

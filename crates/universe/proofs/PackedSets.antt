@@ -1,11 +1,13 @@
 -- Laws of packed sets, over the width.
-use Rattle.std.proofs.Common.{◌≡◌, ℕ, zero, suc, ◌+◌, ◌-◌, ◌*◌, ◌/◌, ◌%◌, ◌^◌, ◌<◌, ◌≤◌, Bool, true, false, cond, ◌&&◌, eqb, ltb, leb, sym, refl, ◌∙◌, inl, inr, div-one, arith}
+use Rattle.std.proofs.Common.{◌≡◌, ℕ, zero, suc, ◌+◌, ◌-◌, ◌*◌, ◌/◌, ◌%◌, ◌^◌, ◌<◌, ◌≤◌, Bool, true, false, cond, ◌&&◌, eqb, ltb, leb, length, sym, refl, ◌∙◌, inl, inr, div-one, arith}
 use native.Mathlib.Nat.{pow-succ'}
 use lib.Bits.{bit_and}
 use Rattle.std.proofs.lemmas.Nat.{and_mask, shr-shr, div-add-mod'}
 use Rattle.std.proofs.lemmas.Bool.{lt-ltb, le-ltb, le-leb, lt-leb, cases_lt, and_parts, and_from, both_ways}
-use Rattle.model.specs.Search.{any}
-use Rattle.model.proofs.Searches.{any_found, any_end, any_none_of}
+use Rattle.std.proofs.lemmas.List.FromFn.{length-range_with_len, get_or-range_with_len}
+use Rattle.std.specs.Bool.{MatchBool}
+use Rattle.std.specs.List.{range_with_len, AllWithin, HoldsAt}
+use Rattle.model.proofs.Searches.{any_found, any_none_of}
 use Rattle.universe.specs.Sets.{has, has_from, field}
 
 -- the test by shift and mask
@@ -31,11 +33,6 @@ pub from_found : (w set n p : ℕ) → n ≤ p → true ≡ has w set p → true
 unfolding has_from
 from_found w set n p h e =
     sym (any_found (λ p. leb n p && has w set p) p w (has_below w set p (sym e)) (and_from _ _ (le-leb n p h) (sym e)))
-
--- a search from n on that comes to its end
-pub from_end : (w set n p : ℕ) → any (λ p. leb n p && has w set p) p ≡ false → p ≤ w → w ≤ p → false ≡ has_from w set n
-unfolding has_from
-from_end w set n p e h k = sym (any_end (λ p. leb n p && has w set p) p w e h k)
 
 -- where the search from n on finds nothing, all that is in the set is below n
 pub below_from : (w set n p : ℕ) → has_from w set n ≡ false → has w set p ≡ true → p < n
@@ -110,3 +107,18 @@ field_has (suc w) set h =
     let half : set / 2 < 2 ^ w = omega (arith, pow-succ' 2 w) in
     rw (has_last w set, bit_of (set % 2) (omega arith), field_same w (has (suc w) set) (has w (set / 2)) (has_rest w set), field_has w (set / 2) half)
     (div-add-mod' set 2)
+
+-- what `any` tells of the numbers from n on below the width
+pub from_any : (w set n : ℕ) (r : Bool) → MatchBool r ((k : ℕ) × (k < length (range_with_len n (w - n))) × HoldsAt (λ p. has w set p ≡ true) (range_with_len n (w - n)) k) (AllWithin (λ p. has w set p ≡ false) (range_with_len n (w - n)) 0 (length (range_with_len n (w - n)))) → r ≡ has_from w set n
+from_any w set n true f =
+    let k = f.0 in
+    let l : k < w - n = omega (arith, f.1, length-range_with_len n (w - n)) in
+    from_found w set n (n + k) (omega arith) (sym (rw (get_or-range_with_len n (w - n) k 0 l) at (f.2 0)))
+from_any w set n false f = sym (from_below w set n (λ p e. elim (cases_lt p n) [
+  | inl l ↦ l
+  | inr h ↦
+      let b = has_below w set p e in
+      let k : n + (p - n) ≡ p = omega arith in
+      let l : p - n < w - n = omega arith in
+      absurd (both_ways (has w set p) (rw (get_or-range_with_len n (w - n) (p - n) 0 l, k) at (f (p - n) 0 (omega arith) (omega (arith, length-range_with_len n (w - n))))) e)
+]))

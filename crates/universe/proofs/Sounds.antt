@@ -1,11 +1,10 @@
 -- The invariant of a universe is a proposition, so that proofs can use it.
-use Rattle.std.proofs.Common.{◌≡◌, ℕ, ◌<◌, ◌≤◌, true, false, ◌≢◌, ◌⊎◌, length, sym, refl, inl, inr, arith}
+use Rattle.std.proofs.Common.{◌≡◌, ℕ, ◌<◌, ◌≤◌, true, false, ◌≢◌, length}
 use mathlib.Core.Logic.{∥∥₁_elim}
-use Rattle.std.proofs.lemmas.List.{get_or_past}
 use denote.Struct.Props.{props}
 use Rattle.model.specs.Universe.{Universe, Valid, IsPair}
 use Rattle.universe.specs.declared.tables.Tables.{Tables}
-use Rattle.universe.specs.Tables.{Sound, blank_state, blank_kind, kind_at, entry_at, universe_of}
+use Rattle.universe.specs.Tables.{Sound, kind_at, universe_of}
 
 pub valid_prop : (u : Universe) → IsProp (Valid u)
 valid_prop u a b = λ i. record { types = p_types a.types b.types i; ports = p_ports a.ports b.ports i; states = p_states a.states b.states i; provides = p_provides a.provides b.provides i; requires = p_requires a.requires b.requires i; next = p_next a.next b.next i; initial = p_initial a.initial b.initial i; beyond = p_beyond a.beyond b.beyond i }
@@ -46,8 +45,3 @@ sound_prop u a b = λ i. record { kinds = p_kinds a.kinds b.kinds i; states = p_
 -- the facts of a universe that the code holds
 pub sound : (u : Tables) → ∥ Sound u ∥₁ → Sound u
 sound u t = ∥∥₁_elim t (sound_prop u) (λ s. s)
-
--- what is out of range has a blank entry
-pub entry_past : (u : Tables) → Sound u → (t q : ℕ) → ((t < 16) × (8 ≤ q)) ⊎ (16 ≤ t) → blank_state ≡ entry_at u t q
-entry_past u s t q (inl h) = sym (get_or_past (kind_at u t).states q blank_state (omega (arith, s.states t h.0, h.1)))
-entry_past u s t q (inr h) = sym (rw (get_or_past u.kinds t blank_kind (omega (arith, s.kinds))) refl)

@@ -50,8 +50,3 @@ FormOfNone bs = (u : Universe) → Valid u → bs ≢ packed_form u
 abbrev pub Packs : List ℕ → Read (Unit {0}) → Tables → Type 0
 Packs bs (Ok x) held = FormOf bs held
 Packs bs (Err e) held = FormOfNone bs
-
--- the same of the tables that were read
-abbrev pub PacksRead : List ℕ → Read Tables → Type 0
-PacksRead bs (Ok held) = FormOf bs held
-PacksRead bs (Err e) = FormOfNone bs

@@ -1,6 +1,7 @@
 -- How a universe file is read, group by group: the first group with an offence refuses it,
 -- with the lowest number that applies there.
-use Rattle.std.specs.Prelude.{ℕ, zero, suc, ◌+◌, ◌-◌, ◌*◌, ◌/◌, ◌%◌, ◌^◌, Bool, cond, not, ◌&&◌, ◌||◌, List, [], ◌∷◌, ◌++◌, length, drop, replicate, Ok, Err, Result, ◌==◌, nat_lt, slice_index}
+use Rattle.std.specs.Prelude.{◌≡◌, ◌≤◌, ℕ, zero, suc, ◌+◌, ◌-◌, ◌*◌, ◌/◌, ◌%◌, ◌^◌, Bool, cond, not, ◌&&◌, ◌||◌, List, [], ◌∷◌, ◌++◌, length, drop, replicate, Ok, Err, Result, ◌==◌, nat_lt, slice_index}
+use Rattle.std.specs.Borrow.{Bor}
 use Rattle.universe.specs.declared.refusal.UniverseRefusal.{UniverseRefusal}
 use Rattle.universe.specs.declared.refusal.UniverseRefusal.TheVariants.{Length, Count, ZeroBit, Port, Successor, InitialState}
 use Rattle.universe.specs.declared.tables.State.{State}
@@ -22,6 +23,11 @@ refused_if b e r = cond b (Err e) r
 abbrev pub and_then : {X Y : Type 0} → Read X → (X → Read Y) → Read Y
 and_then (Ok x) f = f x
 and_then (Err e) f = Err e
+
+-- the call answers as the reading does, and beside the item gives the bytes behind it
+abbrev pub Splits : {X : Type 0} → (X → ℕ) → Read (X × Bor (List ℕ)) → Read X → List ℕ → Type 0
+Splits size (Ok p) r bs = (r ≡ Ok p.0) × (size p.0 ≤ length bs) × (p.1.now ≡ drop (size p.0) bs)
+Splits size (Err e) r bs = r ≡ Err e
 
 -- the list, made n long with d
 abbrev pub filled : {X : Type 0} → ℕ → X → List X → List X
@@ -77,6 +83,14 @@ many one size q zero bs = Ok []
 many one size q (suc n) bs =
     and_then (one q bs) (λ x. and_then (many one size (suc q) n (drop (size x) bs)) (λ xs. Ok (x ∷ xs)))
 
+-- the bytes of a header
+abbrev pub header_size : Header → ℕ
+header_size h = 2
+
+-- the bytes of a state count
+abbrev pub count_size : ℕ → ℕ
+count_size n = 1
+
 -- the bytes of a state's entry
 abbrev pub state_size : State → ℕ
 state_size s = 9
@@ -90,8 +104,8 @@ abbrev pub kind_size : Kind → ℕ
 kind_size k = 1 + 9 * k.count
 
 -- the type at the front of the bytes: its state count, then its states
-unfoldable pub kind_read : ℕ → ℕ → List ℕ → Read Kind
-kind_read ports t bs =
+unfoldable pub kind_read : ℕ → List ℕ → Read Kind
+kind_read ports bs =
     and_then (count_read bs) (λ n. and_then (many (state_read ports n) state_size 0 n (drop 1 bs)) (λ ss. Ok (kind_of ss)))
 
 -- the sizes of the items together
@@ -110,7 +124,7 @@ ended h bs ks = refused_if (not (2 + total kind_size ks == length bs)) Length (O
 -- the whole file: header, types, and no byte behind them
 unfoldable pub tables_read : List ℕ → Read Tables
 tables_read bs =
-    and_then (header_read bs) (λ h. and_then (many (kind_read h.ports) kind_size 0 h.types (drop 2 bs)) (ended h bs))
+    and_then (header_read bs) (λ h. and_then (many (λ _. kind_read h.ports) kind_size 0 h.types (drop 2 bs)) (ended h bs))
 
 -- what the call answers
 abbrev pub answer_of : {X : Type 0} → Read X → Read (Unit {0})

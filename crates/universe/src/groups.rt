@@ -1,9 +1,9 @@
-// The field groups of a universe file, each read from the front of the bytes.
-ghost use Rattle.std.specs.Prelude.{◌≡◌, ◌+◌, ◌≤◌, length, IfOk, OnOk};
-ghost use Rattle.universe.specs.Reading.{count_of, count_read, header_of_word, header_read, state_of, state_read, outside, word_at};
+// The field groups of a universe file, each split off the front of the bytes.
+ghost use Rattle.std.specs.Prelude.{◌≡◌, ◌≤◌, IfOk};
+ghost use Rattle.universe.specs.Reading.{Splits, count_read, count_size, header_read, header_size, state_read, state_size};
 
 use crate::refusal::UniverseRefusal;
-use crate::sets::{has_ports_from, has_state, has_states_from};
+use crate::sets::Field;
 use crate::tables::State;
 
 // The counts of types and ports.
@@ -13,112 +13,73 @@ pub struct Header {
     pub ports: u8,
 }
 
-fn is_outside(low: u16, high: u16, n: u16) -> bool
-    ensures { result ≡ outside low high n }
+// The header at the front of the bytes, and the bytes behind it.
+#[tactic(auto, unfolding(crate::specs::Reading::header_read))]
+pub fn read_header(bytes: &[u8]) -> Result<(Header, &[u8]), UniverseRefusal>
+    ensures value { Splits header_size result (header_read bytes.now) bytes.now }
+    ensures bound { IfOk result (λ r. r.0.types ≤ 16) }
 {
-    n < low || high < n
-}
-
-// The header that 16 bits pack.
-fn header_of(bits: u16) -> Result<Header, UniverseRefusal>
-    ensures value { result ≡ header_of_word bits }
-    ensures bound { IfOk result (λ h. h.types ≤ 16) }
-{
+    let (bits, rest) = bytes.split_first_chunk().ok_or(UniverseRefusal::Length)?;
+    let bits = u16::from_be_bytes(*bits);
     let types = bits >> 11;
     let ports = (bits >> 5) % 64;
-    if is_outside(1, 16, types) || is_outside(0, 32, ports) {
+    if !(1..=16).contains(&types) || !(0..=32).contains(&ports) {
         return Err(UniverseRefusal::Count);
     }
     if bits % 32 != 0 {
         return Err(UniverseRefusal::ZeroBit);
     }
-    Ok(Header {
+    let header = Header {
         types: types as u8,
         ports: ports as u8,
-    })
+    };
+    Ok((header, rest))
 }
 
-// The header at the front of the bytes.
-pub fn read_header(bytes: &[u8]) -> Result<Header, UniverseRefusal>
-    ensures value { result ≡ header_read bytes.now }
-    ensures long { IfOk result (λ h. (h.types ≤ 16) × (2 ≤ length bytes.now)) }
+// The state count at the front of the bytes, and the bytes behind it.
+#[tactic(auto, unfolding(crate::specs::Reading::count_read))]
+pub fn read_count(bytes: &[u8]) -> Result<(u8, &[u8]), UniverseRefusal>
+    ensures value { Splits count_size result (count_read bytes.now) bytes.now }
+    ensures bound { IfOk result (λ r. r.0 ≤ 8) }
 {
-    if bytes.len() < 2 {
-        return Err(UniverseRefusal::Length);
-    }
-    header_of(u16::from_be_bytes([bytes[0], bytes[1]]))
-}
-
-// The state count that 8 bits pack.
-fn count_of(bits: u8) -> Result<u8, UniverseRefusal>
-    ensures value { result ≡ count_of bits }
-    ensures bound { IfOk result (λ n. n ≤ 8) }
-{
+    let (bits, rest) = bytes.split_first().ok_or(UniverseRefusal::Length)?;
     let count = bits >> 4;
-    if is_outside(1, 8, count as u16) {
+    if !(1..=8).contains(&count) {
         return Err(UniverseRefusal::Count);
     }
     if bits % 16 != 0 {
         return Err(UniverseRefusal::ZeroBit);
     }
-    Ok(count)
+    Ok((count, rest))
 }
 
-// The state count at the front of the bytes.
-pub fn read_count(bytes: &[u8]) -> Result<u8, UniverseRefusal>
-    ensures value { result ≡ count_read bytes.now }
-    ensures long { IfOk result (λ n. (n ≤ 8) × (1 ≤ length bytes.now)) }
+// The entry of one of the states of a type, the state `number` of `count`, at the front of the bytes, and the bytes behind it.
+#[tactic(auto, unfolding(crate::specs::Reading::state_read))]
+pub fn read_state(
+    ports: u8,
+    count: u8,
+    number: u8,
+    bytes: &[u8],
+) -> Result<(State, &[u8]), UniverseRefusal>
+    ensures { Splits state_size result (state_read ports count number bytes.now) bytes.now }
 {
-    if bytes.is_empty() {
-        return Err(UniverseRefusal::Length);
-    }
-    count_of(bytes[0])
-}
-
-// The entry, if it is one of the state `number` of a type with `count` states.
-fn state_of(ports: u8, count: u8, number: u8, state: State) -> Result<State, UniverseRefusal>
-    ensures { result ≡ state_of ports count number state }
-{
-    if has_ports_from(state.provided, ports as u32)
-        || has_ports_from(state.required, ports as u32)
-    {
+    let (provided, rest) = bytes.split_first_chunk().ok_or(UniverseRefusal::Length)?;
+    let (required, rest) = rest.split_first_chunk().ok_or(UniverseRefusal::Length)?;
+    let (successors, rest) = rest.split_first().ok_or(UniverseRefusal::Length)?;
+    let state = State {
+        provided: u32::from_be_bytes(*provided),
+        required: u32::from_be_bytes(*required),
+        successors: *successors,
+    };
+    let ports = u32::from(ports);
+    if state.provided.has_from(ports) || state.required.has_from(ports) {
         return Err(UniverseRefusal::Port);
     }
-    if has_state(state.successors, number as u32)
-        || has_states_from(state.successors, count as u32)
-    {
+    if state.successors.has(u32::from(number)) || state.successors.has_from(u32::from(count)) {
         return Err(UniverseRefusal::Successor);
     }
     if number == 0 && state.required != 0 {
         return Err(UniverseRefusal::InitialState);
     }
-    Ok(state)
-}
-
-fn word_at(bytes: &[u8], place: usize) -> u32
-    requires { place + 4 ≤ length bytes.now }
-    ensures { result ≡ word_at bytes.now place }
-{
-    u32::from_be_bytes([
-        bytes[place],
-        bytes[place + 1],
-        bytes[place + 2],
-        bytes[place + 3],
-    ])
-}
-
-// The entry of the state `number` at the front of the bytes.
-pub fn read_state(ports: u8, count: u8, number: u8, bytes: &[u8]) -> Result<State, UniverseRefusal>
-    ensures value { result ≡ state_read ports count number bytes.now }
-    ensures long { OnOk result (9 ≤ length bytes.now) }
-{
-    if bytes.len() < 9 {
-        return Err(UniverseRefusal::Length);
-    }
-    let state = State {
-        provided: word_at(bytes, 0),
-        required: word_at(bytes, 4),
-        successors: bytes[8],
-    };
-    state_of(ports, count, number, state)
+    Ok((state, rest))
 }

@@ -2,7 +2,7 @@
 ghost use Rattle.std.specs.Prelude.{◌≡◌};
 ghost use Rattle.universe.specs.Tables.{Sound, entry_at, tables_of_least, universe_of};
 
-use crate::sets::{has_port, has_state};
+use crate::sets::Field;
 use crate::tables::{Kind, State, Tables};
 
 #[derive(Clone, Copy)]
@@ -24,29 +24,19 @@ pub(crate) const UNUSED_KIND: Kind = Kind {
     states: [BLANK_STATE; 8],
 };
 
-// The tables of the least universe.
-fn least_tables() -> Tables
-    ensures value { result ≡ tables_of_least }
-    ensures sound { Sound result }
-{
-    let mut kinds = [UNUSED_KIND; 16];
-    kinds[0] = Kind {
-        count: 1,
-        states: [BLANK_STATE; 8],
-    };
-    Tables {
-        types: 1,
-        ports: 0,
-        kinds,
-    }
-}
-
 impl Universe {
     // The least universe, for a place to read into: one type of one state, and no ports.
+    #[tactic(auto, using(crate::proofs::Accepted::least_sound))]
     pub fn least() -> Self
         ensures { result.tables ≡ tables_of_least }
     {
-        Universe::holding(least_tables())
+        let mut kinds = [UNUSED_KIND; 16];
+        kinds[0].count = 1;
+        Universe::holding(Tables {
+            types: 1,
+            ports: 0,
+            kinds,
+        })
     }
 
     // The universe that the tables hold.
@@ -75,42 +65,42 @@ impl Universe {
     pub fn states(&self, kind: u32) -> u8
         ensures { result ≡ (universe_of self.now.tables).states kind }
     {
-        if kind < 16 {
-            self.tables.kinds[kind as usize].count
-        } else {
-            0
-        }
+        self.tables
+            .kinds
+            .get(kind as usize)
+            .map_or(0, |kind| kind.count)
     }
 
     // The entry of a state: blank where there is no such state.
     pub fn entry(&self, kind: u32, state: u32) -> State
         ensures { result ≡ entry_at self.now.tables kind state }
     {
-        if kind < 16 && state < 8 {
-            self.tables.kinds[kind as usize].states[state as usize]
-        } else {
-            BLANK_STATE
-        }
+        self.tables
+            .kinds
+            .get(kind as usize)
+            .and_then(|kind| kind.states.get(state as usize))
+            .copied()
+            .unwrap_or(BLANK_STATE)
     }
 
     // Whether the state of the type provides the port.
     pub fn is_provided(&self, kind: u32, state: u32, port: u32) -> bool
         ensures { result ≡ (universe_of self.now.tables).provides kind state port }
     {
-        has_port(self.entry(kind, state).provided, port)
+        self.entry(kind, state).provided.has(port)
     }
 
     // Whether the state of the type requires the port.
     pub fn is_required(&self, kind: u32, state: u32, port: u32) -> bool
         ensures { result ≡ (universe_of self.now.tables).requires kind state port }
     {
-        has_port(self.entry(kind, state).required, port)
+        self.entry(kind, state).required.has(port)
     }
 
     // Whether `next` is a successor of the state of the type.
     pub fn is_successor(&self, kind: u32, state: u32, next: u32) -> bool
         ensures { result ≡ (universe_of self.now.tables).next kind state next }
     {
-        has_state(self.entry(kind, state).successors, next)
+        self.entry(kind, state).successors.has(next)
     }
 }

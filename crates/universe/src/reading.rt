@@ -1,43 +1,42 @@
 // Reading a universe from its packed file into a place that the caller holds.
-ghost use Rattle.std.specs.Prelude.{◌≡◌, ◌≤◌, length, IfOk};
-ghost use Rattle.universe.specs.Packed.{Packs, PacksRead};
-ghost use Rattle.universe.specs.Reading.{answer_of, held_after, kind_read, kind_size, tables_read};
-ghost use Rattle.universe.specs.Tables.{Sound};
+ghost use Rattle.std.specs.Prelude.{◌≡◌};
+ghost use Rattle.universe.specs.Packed.{Packs};
+ghost use Rattle.universe.specs.Reading.{Splits, answer_of, held_after, kind_read, kind_size, tables_read};
 
 use crate::groups::{read_count, read_header, read_state};
 use crate::held::{BLANK_STATE, UNUSED_KIND, Universe};
 use crate::refusal::UniverseRefusal;
 use crate::tables::{Kind, Tables};
 
-// The type at the front of the bytes.
-fn read_kind(ports: u8, number: u8, bytes: &[u8]) -> Result<Kind, UniverseRefusal>
-    ensures value { result ≡ kind_read ports number bytes.now }
-    ensures long { IfOk result (λ k. kind_size k ≤ length bytes.now) }
+// The type at the front of the bytes, and the bytes behind it.
+#[tactic(auto, using(crate::proofs::KindTurns::kind_refused, crate::proofs::KindTurns::kind_begins, crate::proofs::KindTurns::kind_stops, crate::proofs::KindTurns::kind_done))]
+fn read_kind(ports: u8, bytes: &[u8]) -> Result<(Kind, &[u8]), UniverseRefusal>
+    ensures { Splits kind_size result (kind_read ports bytes.now) bytes.now }
 {
-    let count = read_count(bytes)?;
+    let (count, mut rest) = read_count(bytes)?;
     let mut states = [BLANK_STATE; 8];
+    // By number: no proof knows what is written through `iter_mut`.
     for q in 0..count {
-        let start = 1 + 9 * (q as usize);
-        states[q as usize] = read_state(ports, count, q, &bytes[start..])?;
+        let (state, behind) = read_state(ports, count, q, rest)?;
+        states[usize::from(q)] = state;
+        rest = behind;
     }
-    Ok(Kind { count, states })
+    Ok((Kind { count, states }, rest))
 }
 
 // The tables that the whole file packs.
+#[tactic(auto, using(crate::proofs::TableTurns::tables_refused, crate::proofs::TableTurns::tables_cut, crate::proofs::TableTurns::tables_done))]
 fn read_tables(bytes: &[u8]) -> Result<Tables, UniverseRefusal>
-    ensures value { result ≡ tables_read bytes.now }
-    ensures sound { IfOk result Sound }
-    ensures law { PacksRead bytes.now result }
+    ensures { result ≡ tables_read bytes.now }
 {
-    let header = read_header(bytes)?;
+    let (header, mut rest) = read_header(bytes)?;
     let mut kinds = [UNUSED_KIND; 16];
-    let mut place = 2;
     for t in 0..header.types {
-        let kind = read_kind(header.ports, t, &bytes[place..])?;
-        place += 1 + 9 * (kind.count as usize);
-        kinds[t as usize] = kind;
+        let (kind, behind) = read_kind(header.ports, rest)?;
+        kinds[usize::from(t)] = kind;
+        rest = behind;
     }
-    if place != bytes.len() {
+    if !rest.is_empty() {
         return Err(UniverseRefusal::Length);
     }
     Ok(Tables {
@@ -48,6 +47,7 @@ fn read_tables(bytes: &[u8]) -> Result<Tables, UniverseRefusal>
 }
 
 // Reads the universe that the file packs into the place; a file that is refused leaves the place as it was.
+#[tactic(auto, using(crate::proofs::Accepted::accepted, crate::proofs::Accepted::refused, crate::proofs::Checked::read_sound))]
 pub fn read(bytes: &[u8], place: &mut Universe) -> Result<(), UniverseRefusal>
     ensures answer { result ≡ answer_of (tables_read bytes.now) }
     ensures place { place.new.tables ≡ held_after (tables_read bytes.now) place.old.tables }

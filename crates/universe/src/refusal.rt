@@ -1,6 +1,9 @@
 // Why a file is refused as a universe.
-ghost use Rattle.std.specs.Prelude.{◌≡◌};
+ghost use Rattle.std.specs.Prelude.{◌≡◌, Some};
+ghost use Rattle.std.specs.Fmt.{decimal};
 ghost use Rattle.universe.specs.Refusals.{universe_number};
+
+use std::fmt;
 
 #[derive(Clone, Copy, PartialEq, Eq, Debug)]
 pub enum UniverseRefusal {
@@ -31,5 +34,14 @@ impl UniverseRefusal {
             UniverseRefusal::Successor => 5,
             UniverseRefusal::InitialState => 6,
         }
+    }
+}
+
+// A refusal is shown as its number.
+impl fmt::Display for UniverseRefusal {
+    ghost output = { λ refusal. Some (decimal (universe_number refusal)) };
+
+    fn fmt<W: fmt::Write>(&self, f: &mut fmt::Formatter<W>) -> fmt::Result {
+        write!(f, "{}", self.number())
     }
 }

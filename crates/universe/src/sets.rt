@@ -1,52 +1,62 @@
 // Sets of numbers packed in a field: number 0 is the field's highest bit.
-ghost use Rattle.std.specs.Prelude.{◌≡◌, ◌≤◌};
+ghost use Rattle.std.specs.Prelude.{◌≡◌, ℕ, ◌≤◌};
+ghost use Rattle.std.proofs.Common.{arith};
 ghost use Rattle.universe.specs.Sets.{has, has_from};
 
-// Whether the number is in the set packed in a field of `width` bits.
-fn is_in(set: u32, width: u32, number: u32) -> bool
-    requires { width ≤ 32 }
-    ensures { result ≡ has width set number }
-{
-    number < width && (set >> (width - 1 - number)) & 1 == 1
-}
+// A field of up to 32 bits that packs a set.
+pub trait Field: Copy {
+    ghost WIDTH: { ℕ };
 
-// Whether some number from `first` on is in the set packed in a field of `width` bits.
-fn is_any_in(set: u32, width: u32, first: u32) -> bool
-    requires { width ≤ 32 }
-    ensures { result ≡ has_from width set first }
-{
-    for number in 0..width {
-        if number >= first && is_in(set, width, number) {
-            return true;
-        }
+    ghost bits: { Self → ℕ };
+
+    const WIDTH: u32;
+
+    // The field as a number.
+    fn bits(self) -> u32
+        ensures { result ≡ bits self };
+
+    ghost narrow: { WIDTH ≤ 32 };
+
+    // Whether the number is in the set.
+    #[tactic(auto, using(crate::proofs::PackedSets::has_shift, crate::proofs::PackedSets::ltb_past))]
+    final fn has(self, number: u32) -> bool
+        ensures { result ≡ has WIDTH (bits self) number }
+    {
+        number < Self::WIDTH && (self.bits() >> (Self::WIDTH - 1 - number)) & 1 == 1
     }
-    false
+
+    // Whether some number from `first` on is in the set.
+    final fn has_from(self, first: u32) -> bool
+        ensures { result ≡ has_from WIDTH (bits self) first }
+    {
+        (first..Self::WIDTH).any(|number| self.has(number))
+    }
 }
 
-// Whether the port is in the set.
-pub fn has_port(set: u32, port: u32) -> bool
-    ensures { result ≡ has 32 set port }
-{
-    is_in(set, 32, port)
+impl Field for u32 {
+    ghost WIDTH = { 32 };
+
+    ghost bits = { λ set. set };
+
+    const WIDTH: u32 = u32::BITS;
+
+    ghost narrow = { Prim.omega arith };
+
+    fn bits(self) -> u32 {
+        self
+    }
 }
 
-// Whether the state is in the set.
-pub fn has_state(set: u8, state: u32) -> bool
-    ensures { result ≡ has 8 set state }
-{
-    is_in(set as u32, 8, state)
-}
+impl Field for u8 {
+    ghost WIDTH = { 8 };
 
-// Whether some port from `first` on is in the set.
-pub(crate) fn has_ports_from(set: u32, first: u32) -> bool
-    ensures { result ≡ has_from 32 set first }
-{
-    is_any_in(set, 32, first)
-}
+    ghost bits = { λ set. set };
 
-// Whether some state from `first` on is in the set.
-pub(crate) fn has_states_from(set: u8, first: u32) -> bool
-    ensures { result ≡ has_from 8 set first }
-{
-    is_any_in(set as u32, 8, first)
+    const WIDTH: u32 = u8::BITS;
+
+    ghost narrow = { Prim.omega arith };
+
+    fn bits(self) -> u32 {
+        u32::from(self)
+    }
 }
