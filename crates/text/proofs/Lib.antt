@@ -1,3 +1,2 @@
-mod Steps
 mod Reading
 mod Law

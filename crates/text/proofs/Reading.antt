@@ -1,14 +1,16 @@
 -- What numbers, and numbers with blanks between them, are read as.
-use Rattle.std.proofs.Common.{◌≡◌, ℕ, suc, ◌+◌, ◌-◌, ◌*◌, ◌^◌, ◌<◌, ◌≤◌, true, false, ◌&&◌, eqb, ltb, leb, List, [], ◌∷◌, ◌++◌, length, take, drop, Some, None, Option, sym, refl, ap, ◌∙◌, inl, inr, arith}
+use Rattle.std.proofs.Common.{◌≡◌, ℕ, ◌+◌, ◌-◌, ◌*◌, ◌^◌, ◌<◌, ◌≤◌, true, false, ◌&&◌, eqb, ltb, leb, List, [], ◌∷◌, ◌++◌, length, get_or, drop, Some, None, Option, sym, refl, ap, ◌∙◌, inl, inr, arith}
 use Rattle.std.specs.Str.Parse.{AllDigits, digits_value_after}
 use Rattle.std.specs.Char.{digit_value}
+use Rattle.std.specs.List.{position_or_len}
+use Rattle.std.proofs.lemmas.List.Folds.{fold_stays}
+use Rattle.std.proofs.lemmas.List.Sums.{split_at_first, passes_at_first}
 use Rattle.std.proofs.lemmas.List.{take_at, drop_at, drop-drop, length-drop, length-append}
 use Rattle.std.proofs.lemmas.Str.Parse.{digit_from_value}
 use Rattle.std.proofs.lemmas.Str.{digit_value_digit}
 use Rattle.std.proofs.lemmas.Bool.{eqb-true, ne_eqb, lt-ltb, le-leb, ltb-true, leb-true, cond-true, cond-false, cases_Bool, and_parts, and_from}
-use Rattle.text.specs.Written.{digit_test, grown, number_from, number_of, blank, front, rest, two, three, pair, triple}
+use Rattle.text.specs.Written.{digit_test, grown, grown_from, number_from, number_of, front, rest, two, three, pair, triple}
 use Rattle.text.specs.Law.{Spells, SpellsAll, AllNarrow}
-use Rattle.text.proofs.Steps.{number_some, number_none}
 
 -- nothing is both there and not
 pub never : {X A : Type 0} (o : Option X) (x : X) → o ≡ None → o ≡ Some x → A
@@ -43,7 +45,6 @@ step_some k d e = cond-true (digit_test d && ltb (k * 10 + (d - 48)) (2 ^ 32)) (
 
 -- digits that are read have the value that is read
 from_reads : (ds : List ℕ) (k n : ℕ) → k < 2 ^ 32 → number_from (Some k) ds ≡ Some n → AllDigits 10 ds × (digits_value_after 10 k ds ≡ n) × (n < 2 ^ 32)
-unfolding number_from
 from_reads [] k n h e = let same : k ≡ n = cc in (tt, same, omega arith)
 from_reads (d ∷ ds) k n h e =
     elim (cases_Bool (digit_test d && ltb (k * 10 + (d - 48)) (2 ^ 32))) [
@@ -52,12 +53,11 @@ from_reads (d ∷ ds) k n h e =
           let v = digit_is d p.0 in
           let again = from_reads ds (k * 10 + (d - 48)) n (ltb-true (k * 10 + (d - 48)) (2 ^ 32) p.1) (ap (λ o. number_from o ds) (sym (step_some k d it)) ∙ e) in
           ((v.0, again.0), ap (λ x. digits_value_after 10 (k * 10 + x) ds) v.1 ∙ again.1, again.2)
-      | inr not ↦ never (number_from (grown k d) ds) n (ap (λ o. number_from o ds) (step_none k d not)) e
+      | inr not ↦ never (number_from (grown k d) ds) n (ap (λ o. number_from o ds) (step_none k d not) ∙ fold_stays grown_from None (λ x. refl) ds) e
     ]
 
 -- digits are read as their value, if that is small
 from_read : (ds : List ℕ) (k n : ℕ) → AllDigits 10 ds → digits_value_after 10 k ds ≡ n → n < 2 ^ 32 → number_from (Some k) ds ≡ Some n
-unfolding number_from
 from_read [] k n p e h = ap Some e
 from_read (d ∷ ds) k n p e h =
     let v = is_digit d p.0 in
@@ -65,9 +65,13 @@ from_read (d ∷ ds) k n p e h =
     let small : k * 10 + (d - 48) < 2 ^ 32 = omega (arith, after_le ds (k * 10 + (d - 48))) in
     ap (λ o. number_from o ds) (step_some k d (and_from (digit_test d) (ltb (k * 10 + (d - 48)) (2 ^ 32)) v.0 (lt-ltb (k * 10 + (d - 48)) (2 ^ 32) small))) ∙ from_read ds (k * 10 + (d - 48)) n p.1 f h
 
+-- a list with a digit is read from 0
+number_some : (ds : List ℕ) → 0 < length ds → number_of ds ≡ number_from (Some 0) ds
+number_some ds h = cond-true (ltb 0 (length ds)) (number_from (Some 0) ds) None (lt-ltb 0 (length ds) h)
+
 -- a number is read from a numeral of it, and from nothing else
 pub number_reads : (ds : List ℕ) (n : ℕ) → number_of ds ≡ Some n → Spells ds n × (n < 2 ^ 32)
-number_reads [] n e = never (number_of []) n (sym (number_none [] refl)) e
+number_reads [] n e = never (number_of []) n refl e
 number_reads (d ∷ ds) n e =
     let some : 0 < length (d ∷ ds) = omega arith in
     let p = from_reads (d ∷ ds) 0 n (omega arith) (sym (number_some (d ∷ ds) some) ∙ e) in
@@ -76,13 +80,17 @@ number_reads (d ∷ ds) n e =
 pub number_read : (ds : List ℕ) (n : ℕ) → Spells ds n → n < 2 ^ 32 → number_of ds ≡ Some n
 number_read ds n s h = number_some ds s.numeral.0 ∙ from_read ds 0 n s.numeral.1 s.worth h
 
+-- the place of the first blank
+abbrev blank : List ℕ → ℕ
+blank bs = position_or_len (λ b. eqb b 32) bs
+
 -- the first blank stands after the digits
 blank_after : (ds bs : List ℕ) → AllDigits 10 ds → blank (ds ++ (32 ∷ bs)) ≡ length ds
-unfolding blank
 blank_after [] bs p = refl
 blank_after (d ∷ ds) bs p =
     let lo = (digit_from_value d p.0).0 in
-    cond-false (eqb d 32) 0 (suc (blank (ds ++ (32 ∷ bs)))) (ne_eqb d 32 (λ e. omega arith)) ∙ ap suc (blank_after ds bs p.1)
+    let e : eqb d 32 ≡ false = ne_eqb d 32 (λ e. omega arith) in
+    rw (e, blank_after ds bs p.1) (omega arith)
 
 front_after : (ds bs : List ℕ) → AllDigits 10 ds → front (ds ++ (32 ∷ bs)) ≡ ds
 front_after ds bs p = take_at ds (32 ∷ bs) (blank (ds ++ (32 ∷ bs))) (sym (blank_after ds bs p))
@@ -90,24 +98,11 @@ front_after ds bs p = take_at ds (32 ∷ bs) (blank (ds ++ (32 ∷ bs))) (sym (b
 rest_after : (ds bs : List ℕ) → AllDigits 10 ds → rest (ds ++ (32 ∷ bs)) ≡ bs
 rest_after ds bs p = ap (λ k. drop (k + 1) (ds ++ (32 ∷ bs))) (blank_after ds bs p) ∙ sym (drop-drop 1 (length ds) (ds ++ (32 ∷ bs))) ∙ ap (drop 1) (drop_at ds (32 ∷ bs) (length ds) refl)
 
--- one byte further on
-drop_next : (b : ℕ) (bs : List ℕ) (k : ℕ) → drop (suc k + 1) (b ∷ bs) ≡ drop (k + 1) bs
-drop_next b bs k = let e : suc k + 1 ≡ suc (k + 1) = omega arith in ap (λ n. drop n (b ∷ bs)) e
-
 -- at a blank within, the text is cut
 cut : (bs : List ℕ) → blank bs < length bs → bs ≡ front bs ++ (32 ∷ rest bs)
-unfolding blank
-cut [] h = absurd (let no : ⊥ = omega arith in no)
-cut (b ∷ bs) h =
-    elim (cases_Bool (eqb b 32)) [
-      | inl it ↦
-          let here : blank (b ∷ bs) ≡ 0 = cond-true (eqb b 32) 0 (suc (blank bs)) it in
-          ap (λ x. x ∷ bs) (eqb-true b 32 it) ∙ ap (λ k. take k (b ∷ bs) ++ (32 ∷ drop (k + 1) (b ∷ bs))) (sym here)
-      | inr not ↦
-          let next : blank (b ∷ bs) ≡ suc (blank bs) = cond-false (eqb b 32) 0 (suc (blank bs)) not in
-          let less : blank bs < length bs = omega arith in
-          ap (λ l. b ∷ l) (cut bs less) ∙ ap (λ l. b ∷ (take (blank bs) bs ++ (32 ∷ l))) (sym (drop_next b bs (blank bs))) ∙ ap (λ k. take k (b ∷ bs) ++ (32 ∷ drop (k + 1) (b ∷ bs))) (sym next)
-    ]
+cut bs h =
+    split_at_first (λ b. eqb b 32) bs 0 h
+    ∙ ap (λ b. front bs ++ (b ∷ rest bs)) (eqb-true (get_or bs (blank bs) 0) 32 (passes_at_first (λ b. eqb b 32) bs 0 h))
 
 -- what stands after the first blank is not empty only if there is a blank
 some_after : (bs : List ℕ) → 0 < length (rest bs) → blank bs < length bs

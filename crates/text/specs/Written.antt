@@ -1,5 +1,6 @@
 -- The written form of orders: what is written, and what is read.
-use Rattle.std.specs.Prelude.{ℕ, suc, ◌+◌, ◌-◌, ◌*◌, ◌^◌, Bool, cond, ◌&&◌, List, [], ◌∷◌, ◌++◌, length, take, drop, Some, None, codes, decimal, Option, ◌==◌, nat_le, nat_lt, slice_index}
+use Rattle.std.specs.Prelude.{ℕ, ◌+◌, ◌-◌, ◌*◌, ◌^◌, Bool, cond, ◌&&◌, List, ◌++◌, length, drop, Some, None, codes, decimal, Option, ◌==◌, nat_le, nat_lt, slice_index}
+use Rattle.std.specs.List.{after_first, before_first, fold}
 use Rattle.model.specs.declared.order.Order.{Order}
 use Rattle.model.specs.declared.order.Order.TheVariants.{Create, Bind, Change, Unbind, Delete}
 
@@ -11,28 +12,26 @@ digit_test d = nat_le 48 d && nat_le d 57
 abbrev pub grown : ℕ → ℕ → Option ℕ
 grown n d = let m = n * 10 + (d - 48) in cond (digit_test d && nat_lt m (2 ^ 32)) (Some m) None
 
+-- the number so far with one more digit, if there is one
+abbrev pub grown_from : Option ℕ → ℕ → Option ℕ
+grown_from None d = None
+grown_from (Some n) d = grown n d
+
 -- the number so far with all further digits
-unfoldable pub number_from : Option ℕ → List ℕ → Option ℕ
-number_from None ds = None
-number_from (Some n) [] = Some n
-number_from (Some n) (d ∷ ds) = number_from (grown n d) ds
+abbrev pub number_from : Option ℕ → List ℕ → Option ℕ
+number_from o ds = fold grown_from o ds
 
 -- the number that one digit or more write
-unfoldable pub number_of : List ℕ → Option ℕ
-number_of ds = let n = number_from (Some 0) ds in cond (nat_lt 0 (length ds)) n None
+abbrev pub number_of : List ℕ → Option ℕ
+number_of ds = cond (nat_lt 0 (length ds)) (number_from (Some 0) ds) None
 
--- the place of the first blank, or the length
-unfoldable pub blank : List ℕ → ℕ
-blank [] = 0
-blank (b ∷ bs) = let next = suc (blank bs) in cond (b == 32) 0 next
-
--- what stands before the first blank
+-- what stands before the first blank, or all where there is none
 abbrev pub front : List ℕ → List ℕ
-front bs = take (blank bs) bs
+front bs = before_first (λ b. b == 32) bs
 
--- what stands after the first blank
+-- what stands after the first blank, or nothing where there is none
 abbrev pub rest : List ℕ → List ℕ
-rest bs = drop (blank bs + 1) bs
+rest bs = after_first (λ b. b == 32) bs
 
 -- two numbers, if both are there
 abbrev pub pair : Option ℕ → Option ℕ → Option (ℕ × ℕ)
