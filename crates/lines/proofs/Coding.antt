@@ -1,13 +1,13 @@
 -- Orders and numbers: the laws of the line code.
 use Rattle.std.proofs.Common.{◌≡◌, ℕ, ◌<◌, Bool, true, false, cond, ◌&&◌, eqb, ◌⊎◌, List, [], ◌∷◌, Ok, Err, Result, sym, refl, ap, ◌∙◌, inl, inr, arith}
-use Rattle.std.proofs.lemmas.Bool.Decides.{Decides-eqb}
+use Rattle.std.proofs.lemmas.Bool.{and_parts, eqb-true}
 use Rattle.model.specs.declared.order.Order.{Order}
 use Rattle.model.specs.declared.order.Order.TheVariants.{Create, Bind, Change, Unbind, Delete}
 use Rattle.lines.specs.declared.fields.Fields.{Fields}
 use Rattle.lines.specs.declared.refusal.LineRefusal.{LineRefusal}
 use Rattle.lines.specs.declared.refusal.LineRefusal.TheVariants.{NotALine}
 use Rattle.lines.specs.Line.{encoded, decoded, fits, fields_of_line, fields_of_order, line_of_fields, order_of_fields, unused, LinesBounded, RoundTrip}
-use Rattle.lines.proofs.Packing.{both, same, small, fitting, cut, whole, parts, bounded}
+use Rattle.lines.proofs.Packing.{same, small, fitting, cut, whole, parts, bounded}
 
 -- the fields of an order tell it
 told : (o : Order) → order_of_fields (fields_of_order o) ≡ Ok o
@@ -24,7 +24,7 @@ Zeros (x ∷ xs) = (x ≡ 0) × Zeros xs
 
 zeros : (xs : List ℕ) → unused xs ≡ true → Zeros xs
 zeros [] h = tt
-zeros (x ∷ xs) h = let k = both (eqb x 0) (unused xs) h in ((Decides-eqb x 0).0 k.0, zeros xs k.1)
+zeros (x ∷ xs) h = let k = and_parts (eqb x 0) (unused xs) h in (eqb-true x 0 k.0, zeros xs k.1)
 
 -- a choice is taken, or passed over
 taken : (b : Bool) (o' : Order) (r : Result Order LineRefusal) (o : Order)
@@ -37,7 +37,7 @@ arm : (n k : ℕ) (xs : List ℕ) (o' : Order) (r : Result Order LineRefusal) (o
     → cond (eqb n k && unused xs) (Ok o') r ≡ Ok o → ((k ≡ n) × Zeros xs × (o' ≡ o)) ⊎ (r ≡ Ok o)
 arm n k xs o' r o h =
     elim (taken (eqb n k && unused xs) o' r o h) [
-      | inl w ↦ let v = both (eqb n k) (unused xs) w.0 in inl (sym ((Decides-eqb n k).0 v.0), zeros xs v.1, w.1)
+      | inl w ↦ let v = and_parts (eqb n k) (unused xs) w.0 in inl (sym (eqb-true n k v.0), zeros xs v.1, w.1)
       | inr w ↦ inr w
     ]
 
@@ -69,7 +69,7 @@ own f o h =
 -- what a test lets through was there, and the test held
 passed : (b : Bool) (y x : ℕ) (r : Result ℕ LineRefusal) → r ≡ cond b (Ok y) (Err NotALine) → r ≡ Ok x → (b ≡ true) × (y ≡ x)
 passed true y x r e h = (refl, cc)
-passed false y x r e h = let z : ◌≡◌ {A = ℕ} 0 1 = cc in absurd (omega arith)
+passed false y x r e h = cc
 
 -- an order that has a line fits, and the line is the number of its fields
 lined : (o : Order) (x : ℕ) → encoded o ≡ Ok x → (fits (fields_of_order o) ≡ true) × (line_of_fields (fields_of_order o) ≡ x)

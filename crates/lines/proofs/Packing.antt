@@ -1,8 +1,8 @@
 -- Fields and numbers: a number is that of its fields, and fields that fit are those of their number.
-use Rattle.std.proofs.Common.{◌≡◌, ℕ, ◌+◌, ◌*◌, ◌/◌, ◌%◌, ◌^◌, ◌<◌, Bool, true, false, ◌&&◌, ltb, refl, arith}
+use Rattle.std.proofs.Common.{◌≡◌, ℕ, ◌+◌, ◌*◌, ◌/◌, ◌%◌, ◌^◌, ◌<◌, true, arith}
 use lib.Bits.{bit_or}
 use Rattle.std.proofs.lemmas.Nat.{or_shifted, shr-shr, div-add-mod'}
-use Rattle.std.proofs.lemmas.Bool.Decides.{nat_tests}
+use Rattle.std.proofs.lemmas.Bool.{and_parts, lt-ltb, ltb-true}
 use Rattle.lines.specs.declared.fields.Fields.{Fields}
 use Rattle.lines.specs.Line.{fits, fields_of_line, line_of_fields}
 
@@ -16,45 +16,34 @@ pub record Small (f : Fields) : Type 0 where
   pub state : f.state < 8
   pub spare : f.spare < 2
 
--- a conjunction that holds has parts that hold
-pub both : (a b : Bool) → (a && b) ≡ true → (a ≡ true) × (b ≡ true)
-both true b h = (refl, h)
-both false b h = grind arith
-
-ltb_below : (a b : ℕ) → ltb a b ≡ true → a < b
-ltb_below a b h = grind (arith, nat_tests)
-
 pub small : (f : Fields) → fits f ≡ true → Small f
 small f h =
-    let s = both _ _ h in
-    let q = both _ _ s.0 in
-    let t = both _ _ q.0 in
-    let p = both _ _ t.0 in
-    let y = both _ _ p.0 in
-    let x = both _ _ y.0 in
+    let s = and_parts _ _ h in
+    let q = and_parts _ _ s.0 in
+    let t = and_parts _ _ q.0 in
+    let p = and_parts _ _ t.0 in
+    let y = and_parts _ _ p.0 in
+    let x = and_parts _ _ y.0 in
     record {
-      operation = ltb_below _ _ x.0;
-      first = ltb_below _ _ x.1;
-      second = ltb_below _ _ y.1;
-      port = ltb_below _ _ p.1;
-      kind = ltb_below _ _ t.1;
-      state = ltb_below _ _ q.1;
-      spare = ltb_below _ _ s.1;
+      operation = ltb-true _ _ x.0;
+      first = ltb-true _ _ x.1;
+      second = ltb-true _ _ y.1;
+      port = ltb-true _ _ p.1;
+      kind = ltb-true _ _ t.1;
+      state = ltb-true _ _ q.1;
+      spare = ltb-true _ _ s.1;
     }
-
-below_ltb : (a b : ℕ) → a < b → ltb a b ≡ true
-below_ltb a b h = grind (arith, nat_tests)
 
 pub fitting : (f : Fields) → Small f → fits f ≡ true
 fitting f s =
     rw (
-      below_ltb _ _ s.operation,
-      below_ltb _ _ s.first,
-      below_ltb _ _ s.second,
-      below_ltb _ _ s.port,
-      below_ltb _ _ s.kind,
-      below_ltb _ _ s.state,
-      below_ltb _ _ s.spare,
+      lt-ltb _ _ s.operation,
+      lt-ltb _ _ s.first,
+      lt-ltb _ _ s.second,
+      lt-ltb _ _ s.port,
+      lt-ltb _ _ s.kind,
+      lt-ltb _ _ s.state,
+      lt-ltb _ _ s.spare,
     )
 
 -- the fields of a number fit, but for the operation of one that is too large
@@ -97,7 +86,7 @@ bounded f s = omega arith
 
 -- fitting fields, shifted to their places and joined by `|`, are their number
 pub joined : (f : Fields) → Small f
-    → bit_or (f.operation * 536870912 % 4294967296) (bit_or (f.first * 2097152 % 4294967296) (bit_or (f.second * 8192 % 4294967296) (bit_or (f.port * 256 % 4294967296) (bit_or (f.kind * 16 % 4294967296) (bit_or (f.state * 2 % 4294967296) f.spare)))))
+    → bit_or (bit_or (bit_or (bit_or (bit_or (bit_or (f.operation * 536870912 % 4294967296) (f.first * 2097152 % 4294967296)) (f.second * 8192 % 4294967296)) (f.port * 256 % 4294967296)) (f.kind * 16 % 4294967296)) (f.state * 2 % 4294967296)) f.spare
     ≡ line_of_fields f
 joined f s =
     let operation : f.operation * 536870912 % 4294967296 ≡ f.operation * 536870912 = omega arith in
@@ -106,23 +95,14 @@ joined f s =
     let port : f.port * 256 % 4294967296 ≡ f.port * 256 = omega arith in
     let kind : f.kind * 16 % 4294967296 ≡ f.kind * 16 = omega arith in
     let state : f.state * 2 % 4294967296 ≡ f.state * 2 = omega arith in
-    let t = f.state * 2 + f.spare in
-    let k = f.kind * 16 + t in
-    let p = f.port * 256 + k in
-    let y = f.second * 8192 + p in
-    let z = f.first * 2097152 + y in
-    rw (
-      operation,
-      first,
-      second,
-      port,
-      kind,
-      state,
-      or_shifted f.state 1 f.spare (omega arith),
-      or_shifted f.kind 4 t (omega arith),
-      or_shifted f.port 8 k (omega arith),
-      or_shifted f.second 13 p (omega arith),
-      or_shifted f.first 21 y (omega arith),
-      or_shifted f.operation 29 z (omega arith),
-    )
-    (omega arith)
+    let z = f.operation * 256 + f.first in
+    let y = z * 256 + f.second in
+    let p = y * 32 + f.port in
+    let k = p * 16 + f.kind in
+    let t = k * 8 + f.state in
+    let z' : bit_or (f.operation * 536870912) (f.first * 2097152) ≡ z * 2097152 = omega (arith, or_shifted f.operation 29 (f.first * 2097152) (omega arith)) in
+    let y' : bit_or (z * 2097152) (f.second * 8192) ≡ y * 8192 = omega (arith, or_shifted z 21 (f.second * 8192) (omega arith)) in
+    let p' : bit_or (y * 8192) (f.port * 256) ≡ p * 256 = omega (arith, or_shifted y 13 (f.port * 256) (omega arith)) in
+    let k' : bit_or (p * 256) (f.kind * 16) ≡ k * 16 = omega (arith, or_shifted p 8 (f.kind * 16) (omega arith)) in
+    let t' : bit_or (k * 16) (f.state * 2) ≡ t * 2 = omega (arith, or_shifted k 4 (f.state * 2) (omega arith)) in
+    rw (operation, first, second, port, kind, state, z', y', p', k', t', or_shifted t 1 f.spare (omega arith)) (omega arith)

@@ -1,6 +1,8 @@
 -- The line code: one order in one number of 32 bits. The fields of a line, from the most significant bit:
 -- operation 3 bits, first instance 8, second instance 8, port 5, type 4, state 3, one spare bit.
-use Rattle.std.specs.Prelude.{◌≡◌, ℕ, ◌+◌, ◌*◌, ◌/◌, ◌%◌, ◌^◌, ◌<◌, Bool, true, cond, ◌&&◌, List, [], ◌∷◌, Ok, Err, Result, ◌==◌, nat_lt}
+use Rattle.std.specs.Prelude.{◌≡◌, ℕ, ◌+◌, ◌*◌, ◌/◌, ◌%◌, ◌^◌, ◌<◌, Bool, cond, ◌&&◌, List, [], ◌∷◌, Ok, Err, Result, ◌==◌, nat_lt}
+use Rattle.std.specs.List.{list_all}
+use Rattle.model.specs.declared.binding.Binding.{Binding}
 use Rattle.model.specs.declared.order.Order.{Order}
 use Rattle.model.specs.declared.order.Order.TheVariants.{Create, Bind, Change, Unbind, Delete}
 use Rattle.lines.specs.declared.fields.Fields.{Fields}
@@ -58,16 +60,19 @@ fields_of_order (Delete z) = fields 5 z 0 0 0 0
 
 -- all of the values are zero
 abbrev pub unused : List ℕ → Bool
-unused [] = true
-unused (x ∷ xs) = x == 0 && unused xs
+unused xs = list_all (λ x. x == 0) xs
+
+-- the binding that fields tell: the first instance is the provider and the second the requirer
+abbrev pub binding_of_fields : Fields → Binding
+binding_of_fields f = record { port = f.port; provider = f.first; requirer = f.second }
 
 -- the order that the fields tell: the operation is known, and what the order has no use for is zero
 abbrev pub order_of_fields : Fields → Result Order LineRefusal
 order_of_fields f =
     cond (f.operation == 1 && unused (f.second ∷ f.port ∷ f.state ∷ f.spare ∷ [])) (Ok (Create f.first f.kind))
-    (cond (f.operation == 2 && unused (f.kind ∷ f.state ∷ f.spare ∷ [])) (Ok (Bind f.port f.first f.second))
+    (cond (f.operation == 2 && unused (f.kind ∷ f.state ∷ f.spare ∷ [])) (Ok (Bind (binding_of_fields f)))
     (cond (f.operation == 3 && unused (f.second ∷ f.port ∷ f.kind ∷ f.spare ∷ [])) (Ok (Change f.first f.state))
-    (cond (f.operation == 4 && unused (f.kind ∷ f.state ∷ f.spare ∷ [])) (Ok (Unbind f.port f.first f.second))
+    (cond (f.operation == 4 && unused (f.kind ∷ f.state ∷ f.spare ∷ [])) (Ok (Unbind (binding_of_fields f)))
     (cond (f.operation == 5 && unused (f.second ∷ f.port ∷ f.kind ∷ f.state ∷ f.spare ∷ [])) (Ok (Delete f.first))
     (Err NotALine)))))
 

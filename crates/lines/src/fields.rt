@@ -1,8 +1,9 @@
 // The fields of a line, between the number and the order.
 ghost use Rattle.std.specs.Prelude.{◌≡◌, ◌<◌, true};
-ghost use Rattle.lines.specs.Line.{bits, fields, fits, fields_of_line, fields_of_order, line_of_fields, order_of_fields, unused};
+ghost use Rattle.lines.specs.Line.{binding_of_fields, bits, fields, fits, fields_of_line, fields_of_order, line_of_fields, order_of_fields, unused};
 
 use crate::refusal::LineRefusal;
+use model::binding::Binding;
 use model::order::Order;
 
 // The operation numbers.
@@ -17,7 +18,7 @@ const UNBIND: u32 = 4;
 const DELETE: u32 = 5;
 
 // Each field in a number of its own, which may be too large for its bits.
-#[derive(Clone, Copy)]
+#[derive(Clone, Copy, Default)]
 pub struct Fields {
     pub operation: u32,
     pub first: u32,
@@ -26,30 +27,6 @@ pub struct Fields {
     pub kind: u32,
     pub state: u32,
     pub spare: u32,
-}
-
-// No field is in use.
-const BLANK: Fields = Fields {
-    operation: 0,
-    first: 0,
-    second: 0,
-    port: 0,
-    kind: 0,
-    state: 0,
-    spare: 0,
-};
-
-// The fields of a bind or an unbind: the first instance is the provider and the second the requirer.
-fn binding(operation: u32, port: u32, provider: u32, requirer: u32) -> Fields
-    ensures { result ≡ fields operation provider requirer port 0 0 }
-{
-    Fields {
-        operation,
-        first: provider,
-        second: requirer,
-        port,
-        ..BLANK
-    }
 }
 
 // The bits of a line from `place` on, as many as `width` says: by shift and mask.
@@ -64,95 +41,43 @@ fn bits(line: u32, place: u32, width: u32) -> u32
 fn unused(values: &[u32]) -> bool
     ensures { result ≡ unused values.now }
 {
-    for value in values {
-        if *value != 0 {
-            return false;
-        }
-    }
-    true
+    values.iter().all(|value| *value == 0)
 }
 
-impl Fields {
-    // The fields that tell an order, which may be too large for a line.
-    pub(crate) fn from_order(order: Order) -> Fields
-        ensures { result ≡ fields_of_order order }
-    {
+// The fields that tell an order, which may be too large for a line.
+impl From<Order> for Fields {
+    ghost from_gives = { λ order fields. fields ≡ fields_of_order order };
+
+    fn from(order: Order) -> Fields {
         match order {
             Order::Create { instance, kind } => Fields {
                 operation: CREATE,
                 first: instance,
                 kind,
-                ..BLANK
+                ..Fields::default()
             },
-            Order::Bind {
-                port,
-                provider,
-                requirer,
-            } => binding(BIND, port, provider, requirer),
+            Order::Bind(binding) => Fields::of_binding(BIND, binding),
             Order::Change { instance, state } => Fields {
                 operation: CHANGE,
                 first: instance,
                 state,
-                ..BLANK
+                ..Fields::default()
             },
-            Order::Unbind {
-                port,
-                provider,
-                requirer,
-            } => binding(UNBIND, port, provider, requirer),
+            Order::Unbind(binding) => Fields::of_binding(UNBIND, binding),
             Order::Delete { instance } => Fields {
                 operation: DELETE,
                 first: instance,
-                ..BLANK
+                ..Fields::default()
             },
         }
     }
+}
 
-    // The order that the fields tell; refused where the operation is none, or where a field
-    // that the order has no use for, or the spare bit, is not zero.
-    pub(crate) fn to_order(self) -> Result<Order, LineRefusal>
-        ensures { result ≡ order_of_fields self }
-    {
-        match self.operation {
-            CREATE if unused(&[self.second, self.port, self.state, self.spare]) => {
-                Ok(Order::Create {
-                    instance: self.first,
-                    kind: self.kind,
-                })
-            },
-            BIND if unused(&[self.kind, self.state, self.spare]) => {
-                Ok(Order::Bind {
-                    port: self.port,
-                    provider: self.first,
-                    requirer: self.second,
-                })
-            },
-            CHANGE if unused(&[self.second, self.port, self.kind, self.spare]) => {
-                Ok(Order::Change {
-                    instance: self.first,
-                    state: self.state,
-                })
-            },
-            UNBIND if unused(&[self.kind, self.state, self.spare]) => {
-                Ok(Order::Unbind {
-                    port: self.port,
-                    provider: self.first,
-                    requirer: self.second,
-                })
-            },
-            DELETE if unused(&[self.second, self.port, self.kind, self.state, self.spare]) => {
-                Ok(Order::Delete {
-                    instance: self.first,
-                })
-            },
-            _ => Err(LineRefusal::NotALine),
-        }
-    }
+// The fields of any number.
+impl From<u32> for Fields {
+    ghost from_gives = { λ line fields. fields ≡ fields_of_line line };
 
-    // The fields of any number.
-    pub(crate) fn from_line(line: u32) -> Fields
-        ensures { result ≡ fields_of_line line }
-    {
+    fn from(line: u32) -> Fields {
         Fields {
             operation: line >> 29,
             first: bits(line, 21, 8),
@@ -163,6 +88,68 @@ impl Fields {
             spare: bits(line, 0, 1),
         }
     }
+}
+
+// The order that the fields tell; refused where the operation is none, or where a field
+// that the order has no use for, or the spare bit, is not zero.
+impl TryFrom<Fields> for Order {
+    type Error = LineRefusal;
+
+    ghost try_from_gives = { λ fields order. order ≡ order_of_fields fields };
+
+    fn try_from(fields: Fields) -> Result<Order, LineRefusal> {
+        let Fields {
+            operation,
+            first,
+            second,
+            port,
+            kind,
+            state,
+            spare,
+        } = fields;
+        match operation {
+            CREATE if unused(&[second, port, state, spare]) => Ok(Order::Create {
+                instance: first,
+                kind,
+            }),
+            BIND if unused(&[kind, state, spare]) => Ok(Order::Bind(fields.binding())),
+            CHANGE if unused(&[second, port, kind, spare]) => Ok(Order::Change {
+                instance: first,
+                state,
+            }),
+            UNBIND if unused(&[kind, state, spare]) => Ok(Order::Unbind(fields.binding())),
+            DELETE if unused(&[second, port, kind, state, spare]) => Ok(Order::Delete {
+                instance: first,
+            }),
+            _ => Err(LineRefusal::NotALine),
+        }
+    }
+}
+
+impl Fields {
+    // The fields of a bind or an unbind: the first instance is the provider and the second the requirer.
+    fn of_binding(operation: u32, binding: Binding) -> Fields
+        ensures { result ≡ fields operation binding.provider binding.requirer binding.port 0 0 }
+    {
+        Fields {
+            operation,
+            first: binding.provider,
+            second: binding.requirer,
+            port: binding.port,
+            ..Fields::default()
+        }
+    }
+
+    // The binding that the fields of a bind or an unbind tell.
+    fn binding(self) -> Binding
+        ensures { result ≡ binding_of_fields self }
+    {
+        Binding {
+            port: self.port,
+            provider: self.first,
+            requirer: self.second,
+        }
+    }
 
     // The number that has the fields, each of which fits its bits.
     pub(crate) fn to_line(self) -> u32
@@ -170,9 +157,12 @@ impl Fields {
         ensures { result ≡ line_of_fields self }
     {
         (self.operation << 29)
-            | ((self.first << 21)
-                | ((self.second << 13)
-                    | ((self.port << 8) | ((self.kind << 4) | ((self.state << 1) | self.spare)))))
+            | (self.first << 21)
+            | (self.second << 13)
+            | (self.port << 8)
+            | (self.kind << 4)
+            | (self.state << 1)
+            | self.spare
     }
 
     // Each field fits its bits.

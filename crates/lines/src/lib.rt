@@ -19,7 +19,7 @@ use refusal::LineRefusal;
 pub fn encode(order: Order) -> Result<u32, LineRefusal>
     ensures { result ≡ encoded order }
 {
-    let fields = Fields::from_order(order);
+    let fields = Fields::from(order);
     if fields.fits() {
         Ok(fields.to_line())
     } else {
@@ -31,7 +31,7 @@ pub fn encode(order: Order) -> Result<u32, LineRefusal>
 pub fn decode(line: u32) -> Result<Order, LineRefusal>
     ensures { result ≡ decoded line }
 {
-    Fields::from_line(line).to_order()
+    Order::try_from(Fields::from(line))
 }
 
 // The laws of the code hold: each order that has a line comes back from it, each number that tells

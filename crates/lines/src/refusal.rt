@@ -1,6 +1,8 @@
 // Why an order has no line, or a number is none.
-ghost use Rattle.std.specs.Prelude.{◌≡◌};
+ghost use Rattle.std.specs.Prelude.{◌≡◌, Some, decimal};
 ghost use Rattle.lines.specs.Line.{line_number};
+
+use std::fmt;
 
 #[derive(Clone, Copy, PartialEq, Eq, Debug)]
 pub enum LineRefusal {
@@ -16,5 +18,14 @@ impl LineRefusal {
         match self {
             LineRefusal::NotALine => 43,
         }
+    }
+}
+
+// The refusal is shown as its number.
+impl fmt::Display for LineRefusal {
+    ghost output = { λ r. Some (decimal (line_number r)) };
+
+    fn fmt<W: fmt::Write>(&self, f: &mut fmt::Formatter<W>) -> fmt::Result {
+        write!(f, "{}", self.number())
     }
 }

@@ -9,12 +9,13 @@ use Rattle.std.proofs.lemmas.List.{take_at, drop_at, drop-drop, length-drop, len
 use Rattle.std.proofs.lemmas.Str.Parse.{digit_from_value}
 use Rattle.std.proofs.lemmas.Str.{digit_value_digit}
 use Rattle.std.proofs.lemmas.Bool.{eqb-true, ne_eqb, lt-ltb, le-leb, ltb-true, leb-true, cond-true, cond-false, cases_Bool, and_parts, and_from}
-use Rattle.text.specs.Written.{digit_test, grown, grown_from, number_from, number_of, front, rest, two, three, pair, triple}
+use Rattle.model.specs.declared.binding.Binding.{Binding}
+use Rattle.text.specs.Written.{digit_test, grown, grown_from, number_from, number_of, front, rest, two, binding_of, pair, joined}
 use Rattle.text.specs.Law.{Spells, SpellsAll, AllNarrow}
 
 -- nothing is both there and not
 pub never : {X A : Type 0} (o : Option X) (x : X) → o ≡ None → o ≡ Some x → A
-never o x p q = let z : ◌≡◌ {A = ℕ} 0 1 = cc in absurd (let no : ⊥ = omega arith in no)
+never o x p q = cc
 
 -- the digit's value, and that of a byte with such a value
 digit_is : (d : ℕ) → digit_test d ≡ true → (digit_value d < 10) × (digit_value d ≡ d - 48)
@@ -117,12 +118,12 @@ pair_some None p r e = never (pair None p) r refl e
 pair_some (Some a) None r e = never (pair (Some a) None) r refl e
 pair_some (Some a) (Some b) r e = let q : (a, b) ≡ r = cc in (ap (λ (x : ℕ × ℕ). Some x.0) q, ap (λ (x : ℕ × ℕ). Some x.1) q)
 
-triple_some : (o : Option ℕ) (p : Option (ℕ × ℕ)) (r : ℕ × ℕ × ℕ) → triple o p ≡ Some r → (o ≡ Some r.0) × (p ≡ Some (r.1, r.2))
-triple_some None p r e = never (triple None p) r refl e
-triple_some (Some a) None r e = never (triple (Some a) None) r refl e
-triple_some (Some a) (Some b) r e =
-    let q : (a, b.0, b.1) ≡ r = cc in
-    (ap (λ (x : ℕ × ℕ × ℕ). Some x.0) q, ap (λ (x : ℕ × ℕ × ℕ). Some (x.1, x.2)) q)
+joined_some : (o : Option ℕ) (p : Option (ℕ × ℕ)) (j : Binding) → joined o p ≡ Some j → (o ≡ Some j.port) × (p ≡ Some (j.provider, j.requirer))
+joined_some None p j e = never (joined None p) j refl e
+joined_some (Some a) None j e = never (joined (Some a) None) j refl e
+joined_some (Some a) (Some b) j e =
+    let q : record { port = a; provider = b.0; requirer = b.1 } ≡ j = cc in
+    (ap (λ (x : Binding). Some x.port) q, ap (λ (x : Binding). Some (x.provider, x.requirer)) q)
 
 -- two numbers are read from their numerals with a blank between them, and from nothing else
 pub two_reads : (bs : List ℕ) (r : ℕ × ℕ) → two bs ≡ Some r → SpellsAll bs (r.0 ∷ r.1 ∷ []) × AllNarrow (r.0 ∷ r.1 ∷ [])
@@ -139,18 +140,18 @@ two_read bs a b s h =
     let y : number_of (rest bs) ≡ Some b = ap number_of p.1 ∙ number_read s.1 b s.4 h.1.0 in
     ap (λ o. pair o (number_of (rest bs))) x ∙ ap (λ o. pair (Some a) o) y
 
--- and so are three
-pub three_reads : (bs : List ℕ) (r : ℕ × ℕ × ℕ) → three bs ≡ Some r → SpellsAll bs (r.0 ∷ r.1 ∷ r.2 ∷ []) × AllNarrow (r.0 ∷ r.1 ∷ r.2 ∷ [])
-three_reads bs r e =
-    let p = triple_some (number_of (front bs)) (two (rest bs)) r e in
-    let a = number_reads (front bs) r.0 p.0 in
-    let b = two_reads (rest bs) (r.1, r.2) p.1 in
+-- and so are the three of a binding
+pub binding_reads : (bs : List ℕ) (j : Binding) → binding_of bs ≡ Some j → SpellsAll bs (j.port ∷ j.provider ∷ j.requirer ∷ []) × AllNarrow (j.port ∷ j.provider ∷ j.requirer ∷ [])
+binding_reads bs j e =
+    let p = joined_some (number_of (front bs)) (two (rest bs)) j e in
+    let a = number_reads (front bs) j.port p.0 in
+    let b = two_reads (rest bs) (j.provider, j.requirer) p.1 in
     let some : 0 < length (rest bs) = omega (arith, ap length b.0.2, length-append b.0.0 (32 ∷ b.0.1)) in
     ((front bs, rest bs, cut bs (some_after bs some), a.0, b.0), (a.1, b.1))
 
-pub three_read : (bs : List ℕ) (a b c : ℕ) → SpellsAll bs (a ∷ b ∷ c ∷ []) → AllNarrow (a ∷ b ∷ c ∷ []) → three bs ≡ Some (a, b, c)
-three_read bs a b c s h =
+pub binding_read : (bs : List ℕ) (j : Binding) → SpellsAll bs (j.port ∷ j.provider ∷ j.requirer ∷ []) → AllNarrow (j.port ∷ j.provider ∷ j.requirer ∷ []) → binding_of bs ≡ Some j
+binding_read bs j s h =
     let p = parts s.0 s.1 bs s.2 s.3.numeral.1 in
-    let x : number_of (front bs) ≡ Some a = ap number_of p.0 ∙ number_read s.0 a s.3 h.0 in
-    let y : two (rest bs) ≡ Some (b, c) = ap two p.1 ∙ two_read s.1 b c s.4 h.1 in
-    ap (λ o. triple o (two (rest bs))) x ∙ ap (λ o. triple (Some a) o) y
+    let x : number_of (front bs) ≡ Some j.port = ap number_of p.0 ∙ number_read s.0 j.port s.3 h.0 in
+    let y : two (rest bs) ≡ Some (j.provider, j.requirer) = ap two p.1 ∙ two_read s.1 j.provider j.requirer s.4 h.1 in
+    ap (λ o. joined o (two (rest bs))) x ∙ ap (λ o. joined (Some j.port) o) y

@@ -1,6 +1,8 @@
--- The written form of orders: what is written, and what is read.
-use Rattle.std.specs.Prelude.{ℕ, ◌+◌, ◌-◌, ◌*◌, ◌^◌, Bool, cond, ◌&&◌, List, ◌++◌, length, drop, Some, None, codes, decimal, Option, ◌==◌, nat_le, nat_lt, slice_index}
+-- What is read of the written form of orders.
+use Rattle.std.specs.Prelude.{ℕ, ◌+◌, ◌-◌, ◌*◌, ◌^◌, Bool, cond, ◌&&◌, List, length, drop, Some, None, Option, ◌==◌, nat_le, nat_lt, slice_index}
 use Rattle.std.specs.List.{after_first, before_first, fold}
+use Rattle.std.specs.Option.{option_map}
+use Rattle.model.specs.declared.binding.Binding.{Binding}
 use Rattle.model.specs.declared.order.Order.{Order}
 use Rattle.model.specs.declared.order.Order.TheVariants.{Create, Bind, Change, Unbind, Delete}
 
@@ -39,43 +41,28 @@ pair None o = None
 pair (Some a) None = None
 pair (Some a) (Some b) = Some (a, b)
 
--- three numbers, if all are there
-abbrev pub triple : Option ℕ → Option (ℕ × ℕ) → Option (ℕ × ℕ × ℕ)
-triple None o = None
-triple (Some a) None = None
-triple (Some a) (Some p) = Some (a, p.0, p.1)
-
 -- the number before the first blank, and that after it
 abbrev pub two : List ℕ → Option (ℕ × ℕ)
 two bs = pair (number_of (front bs)) (number_of (rest bs))
 
--- the number before the first blank, and the two after it
-abbrev pub three : List ℕ → Option (ℕ × ℕ × ℕ)
-three bs = triple (number_of (front bs)) (two (rest bs))
+-- the binding of a port and its two ends, if all are there
+abbrev pub joined : Option ℕ → Option (ℕ × ℕ) → Option Binding
+joined None o = None
+joined (Some p) None = None
+joined (Some p) (Some e) = Some (record { port = p; provider = e.0; requirer = e.1 })
 
--- an order of one number, if it is there
-abbrev pub of_one : (ℕ → Order) → Option ℕ → Option Order
-of_one make None = None
-of_one make (Some a) = Some (make a)
-
--- an order of two numbers, if they are there
-abbrev pub of_two : (ℕ → ℕ → Order) → Option (ℕ × ℕ) → Option Order
-of_two make None = None
-of_two make (Some p) = Some (make p.0 p.1)
-
--- an order of three numbers, if they are there
-abbrev pub of_three : (ℕ → ℕ → ℕ → Order) → Option (ℕ × ℕ × ℕ) → Option Order
-of_three make None = None
-of_three make (Some p) = Some (make p.0 p.1 p.2)
+-- the binding of the number before the first blank, and the two after it
+abbrev pub binding_of : List ℕ → Option Binding
+binding_of bs = joined (number_of (front bs)) (two (rest bs))
 
 -- the order of a letter and its numbers
 abbrev pub lettered : ℕ → List ℕ → Option Order
 lettered l ds =
-    cond (l == 99) (of_two Create (two ds)) (
-    cond (l == 98) (of_three Bind (three ds)) (
-    cond (l == 115) (of_two Change (two ds)) (
-    cond (l == 117) (of_three Unbind (three ds)) (
-    cond (l == 100) (of_one Delete (number_of ds)) None))))
+    cond (l == 99) (option_map (λ n. Create n.0 n.1) (two ds)) (
+    cond (l == 98) (option_map Bind (binding_of ds)) (
+    cond (l == 115) (option_map (λ n. Change n.0 n.1) (two ds)) (
+    cond (l == 117) (option_map Unbind (binding_of ds)) (
+    cond (l == 100) (option_map Delete (number_of ds)) None))))
 
 -- the first byte, if a blank follows it
 abbrev pub letter_of_line : List ℕ → Option ℕ

@@ -3,9 +3,11 @@
 
 ghost use Rattle.std.specs.Prelude.{◌≡◌, ◌==◌, position, IfOk, string_bytes};
 ghost use Rattle.std.specs.List.{after_first, before_first};
+ghost use Rattle.model.specs.Written.{written};
 ghost use Rattle.text.specs.Law.{WrittenLaw};
-ghost use Rattle.text.specs.Written.{written, grown, number_of, two, three, lettered, order_of};
+ghost use Rattle.text.specs.Written.{grown, number_of, two, binding_of, order_of};
 
+use model::binding::Binding;
 use model::order::Order;
 use std::alloc::{AllocError, Global};
 
@@ -13,21 +15,7 @@ use std::alloc::{AllocError, Global};
 pub fn order_text(alloc: Global, order: Order) -> Result<String, AllocError>
     ensures { IfOk result (λ s. string_bytes s ≡ written order) }
 {
-    match order {
-        Order::Create { instance, kind } => format!(in alloc; "c {instance} {kind}"),
-        Order::Bind {
-            port,
-            provider,
-            requirer,
-        } => format!(in alloc; "b {port} {provider} {requirer}"),
-        Order::Change { instance, state } => format!(in alloc; "s {instance} {state}"),
-        Order::Unbind {
-            port,
-            provider,
-            requirer,
-        } => format!(in alloc; "u {port} {provider} {requirer}"),
-        Order::Delete { instance } => format!(in alloc; "d {instance}"),
-    }
+    format!(in alloc; "{order}")
 }
 
 // The number with one more digit, if the byte is a digit and the number keeps 32 bits.
@@ -81,59 +69,42 @@ fn two_numbers(bytes: &[u8]) -> Option<(u32, u32)>
     Some((parse_number(first)?, parse_number(second)?))
 }
 
-// The number before the first blank, and the two after it.
-fn three_numbers(bytes: &[u8]) -> Option<(u32, u32, u32)>
-    ensures { result ≡ three bytes.now }
+// The binding of the number before the first blank and the two after it.
+fn parse_binding(bytes: &[u8]) -> Option<Binding>
+    ensures { result ≡ binding_of bytes.now }
 {
-    let (first, others) = split_at_first(bytes, b' ');
-    let first = parse_number(first)?;
-    let (second, third) = two_numbers(others)?;
-    Some((first, second, third))
-}
-
-// The order of a letter and its numbers.
-fn order_of(letter: u8, numbers: &[u8]) -> Option<Order>
-    ensures { result ≡ lettered letter numbers.now }
-{
-    match letter {
-        b'c' => {
-            let (instance, kind) = two_numbers(numbers)?;
-            Some(Order::Create { instance, kind })
-        }
-        b'b' => {
-            let (port, provider, requirer) = three_numbers(numbers)?;
-            Some(Order::Bind {
-                port,
-                provider,
-                requirer,
-            })
-        }
-        b's' => {
-            let (instance, state) = two_numbers(numbers)?;
-            Some(Order::Change { instance, state })
-        }
-        b'u' => {
-            let (port, provider, requirer) = three_numbers(numbers)?;
-            Some(Order::Unbind {
-                port,
-                provider,
-                requirer,
-            })
-        }
-        b'd' => {
-            let instance = parse_number(numbers)?;
-            Some(Order::Delete { instance })
-        }
-        _ => None,
-    }
+    let (port, ends) = split_at_first(bytes, b' ');
+    let port = parse_number(port)?;
+    let (provider, requirer) = two_numbers(ends)?;
+    Some(Binding {
+        port,
+        provider,
+        requirer,
+    })
 }
 
 // The order that a line writes, or none where it writes no order.
 pub fn parse_order(line: &[u8]) -> Option<Order>
     ensures { result ≡ order_of line.now }
 {
-    match line {
-        [letter, b' ', numbers @ ..] => order_of(*letter, numbers),
+    let [letter, b' ', numbers @ ..] = line else {
+        return None;
+    };
+    match letter {
+        b'c' => {
+            let (instance, kind) = two_numbers(numbers)?;
+            Some(Order::Create { instance, kind })
+        }
+        b'b' => parse_binding(numbers).map(Order::Bind),
+        b's' => {
+            let (instance, state) = two_numbers(numbers)?;
+            Some(Order::Change { instance, state })
+        }
+        b'u' => parse_binding(numbers).map(Order::Unbind),
+        b'd' => {
+            let instance = parse_number(numbers)?;
+            Some(Order::Delete { instance })
+        }
         _ => None,
     }
 }
