@@ -1,10 +1,15 @@
 -- Worked cases.
-use Rattle.std.specs.Prelude.{◌≡◌, length, Ok, Err}
+use Rattle.std.specs.Prelude.{◌≡◌, ℕ, length, Ok, Err}
+use Rattle.model.specs.declared.binding.Binding.{Binding}
 use Rattle.model.specs.declared.order.Order.TheVariants.{Create, Bind, Unbind}
 use Rattle.lines.specs.declared.refusal.LineRefusal.TheVariants.{NotALine}
 use Rattle.universe.specs.Packed.{packed_form}
 use Rattle.harbour.specs.Harbour.{harbour, harbour_file}
 use Rattle.lines.specs.Line.{encoded, decoded}
+
+-- a binding of its port, its provider and its requirer
+abbrev pub binding : ℕ → ℕ → ℕ → Binding
+binding p x y = record { port = p; provider = x; requirer = y }
 
 -- lines of orders, and numbers that are no lines
 pub record LineCases : Type 0 where
@@ -12,11 +17,11 @@ pub record LineCases : Type 0 where
   pub create : encoded (Create 1 1) ≡ Ok 0x20200010
   pub created : decoded 0x20200010 ≡ Ok (Create 1 1)
   -- on the port 1 the instance 1 is bound to the instance 2
-  pub bind : encoded (Bind 1 1 2) ≡ Ok 0x40204100
-  pub bound : decoded 0x40204100 ≡ Ok (Bind 1 1 2)
+  pub bind : encoded (Bind (binding 1 1 2)) ≡ Ok 0x40204100
+  pub bound : decoded 0x40204100 ≡ Ok (Bind (binding 1 1 2))
   -- on the port 0 the instance 0 is unbound from the instance 2
-  pub unbind : encoded (Unbind 0 0 2) ≡ Ok 0x80004000
-  pub unbound : decoded 0x80004000 ≡ Ok (Unbind 0 0 2)
+  pub unbind : encoded (Unbind (binding 0 0 2)) ≡ Ok 0x80004000
+  pub unbound : decoded 0x80004000 ≡ Ok (Unbind (binding 0 0 2))
   -- the line of the create with the spare bit set is none
   pub spare : decoded 0x20200011 ≡ Err NotALine
   -- 0 is no operation

@@ -3,8 +3,9 @@
 #![tactic(auto)]
 
 ghost use Rattle.std.specs.Prelude.{◌≡◌, map, string_bytes};
-ghost use Rattle.options.specs.Options.{begun, ended, flag_of_text, flag_text, given_by, has, heard, host_options_of, option_test, layers_of_text, plain_place_of, same, valued, with_value_of};
+ghost use Rattle.options.specs.Options.{flag_of_text, flag_text, given_by, has, host_options_of, layers_of_text, next_flag_of, option_test, plain_place_of, with_value_of};
 
+use std::str::FromStr;
 use text::parse_number;
 
 // The options that there are.
@@ -25,7 +26,7 @@ pub enum Layers {
 }
 
 // The values of the options that are given.
-#[derive(Clone, Copy, PartialEq, Eq, Debug)]
+#[derive(Clone, Copy, PartialEq, Eq, Debug, Default)]
 pub struct Given {
     pub instances: Option<u32>,
     pub bindings: Option<u32>,
@@ -62,16 +63,9 @@ pub struct Fault {
     pub reason: Reason,
 }
 
-// What the words up to a place say: the values, and the option whose value comes next.
-#[derive(Clone, Copy)]
-struct Scan {
-    given: Given,
-    awaited: Option<Flag>,
-}
-
 impl Flag {
     // The word of the option.
-    pub fn text(self) -> &'static str
+    pub fn as_str(self) -> &'static str
         ensures { result.now ≡ flag_text self }
     {
         match self {
@@ -83,52 +77,44 @@ impl Flag {
     }
 }
 
-fn is_same(word: &str, text: &str) -> bool
-    ensures { result ≡ same word.now text.now }
-{
-    word == text
-}
-
-// The word begins with two dashes.
-fn is_option(word: &[u8]) -> bool
-    ensures { result ≡ option_test word.now }
-{
-    match word {
-        [b'-', b'-', ..] => true,
-        _ => false,
-    }
-}
-
 // The option of a word.
-fn flag_of(word: &str) -> Option<Flag>
-    ensures { result ≡ flag_of_text word.now }
-{
-    if is_same(word, "--instances") {
-        Some(Flag::Instances)
-    } else if is_same(word, "--bindings") {
-        Some(Flag::Bindings)
-    } else if is_same(word, "--delay") {
-        Some(Flag::Delay)
-    } else if is_same(word, "--layers") {
-        Some(Flag::Layers)
-    } else {
-        None
+impl FromStr for Flag {
+    type Err = Reason;
+
+    ghost from_str_gives = { λ word flag. flag ≡ flag_of_text word };
+
+    fn from_str(word: &str) -> Result<Flag, Reason> {
+        match word {
+            "--instances" => Ok(Flag::Instances),
+            "--bindings" => Ok(Flag::Bindings),
+            "--delay" => Ok(Flag::Delay),
+            "--layers" => Ok(Flag::Layers),
+            _ => Err(Reason::Unknown),
+        }
     }
 }
 
 // The layers of a word, from the bottom up.
-fn layers_of(word: &str) -> Option<Layers>
-    ensures { result ≡ layers_of_text word.now }
-{
-    if is_same(word, "") {
-        Some(Layers::None)
-    } else if is_same(word, "v") {
-        Some(Layers::Verifying)
-    } else if is_same(word, "vv") {
-        Some(Layers::VerifyingTwice)
-    } else {
-        None
+impl FromStr for Layers {
+    type Err = Reason;
+
+    ghost from_str_gives = { λ word layers. layers ≡ layers_of_text word };
+
+    fn from_str(word: &str) -> Result<Layers, Reason> {
+        match word {
+            "" => Ok(Layers::None),
+            "v" => Ok(Layers::Verifying),
+            "vv" => Ok(Layers::VerifyingTwice),
+            _ => Err(Reason::BadValue(Flag::Layers)),
+        }
     }
+}
+
+// The word begins with two dashes.
+fn is_option(word: &str) -> bool
+    ensures { result ≡ option_test word.now }
+{
+    word.starts_with("--")
 }
 
 impl Given {
@@ -144,45 +130,30 @@ impl Given {
         }
     }
 
+    // The option of a word, if it has no value yet.
+    fn next_flag(self, word: &str) -> Result<Flag, Reason>
+        ensures { result ≡ next_flag_of self word.now }
+    {
+        let flag = word.parse()?;
+        if self.has(flag) {
+            return Err(Reason::Twice(flag));
+        }
+        Ok(flag)
+    }
+
     // The values with that of the option, which the word writes.
-    fn with_value(self, flag: Flag, word: &str) -> Option<Given>
+    fn with_value(self, flag: Flag, word: &str) -> Result<Given, Reason>
         ensures { result ≡ with_value_of self flag word.now }
     {
+        let number = || parse_number(word.as_bytes()).ok_or(Reason::BadValue(flag));
         let mut given = self;
         match flag {
-            Flag::Instances => given.instances = Some(parse_number(word.as_bytes())?),
-            Flag::Bindings => given.bindings = Some(parse_number(word.as_bytes())?),
-            Flag::Delay => given.delay = Some(parse_number(word.as_bytes())?),
-            Flag::Layers => given.layers = Some(layers_of(word)?),
+            Flag::Instances => given.instances = Some(number()?),
+            Flag::Bindings => given.bindings = Some(number()?),
+            Flag::Delay => given.delay = Some(number()?),
+            Flag::Layers => given.layers = Some(word.parse()?),
         }
-        Some(given)
-    }
-
-    // The word is the value of the option.
-    fn hear_value(self, flag: Flag, word: &str) -> Result<Scan, Reason>
-        ensures { result ≡ valued flag (with_value_of self flag word.now) }
-    {
-        match self.with_value(flag, word) {
-            Some(given) => Ok(Scan {
-                given,
-                awaited: None,
-            }),
-            None => Err(Reason::BadValue(flag)),
-        }
-    }
-
-    // The word is that of an option, if there is one.
-    fn hear_option(self, option: Option<Flag>) -> Result<Scan, Reason>
-        ensures { result ≡ begun self option }
-    {
-        match option {
-            Some(flag) if self.has(flag) => Err(Reason::Twice(flag)),
-            Some(flag) => Ok(Scan {
-                given: self,
-                awaited: Some(flag),
-            }),
-            None => Err(Reason::Unknown),
-        }
+        Ok(given)
     }
 
     // The options of a host, with the usual values for those that are not given.
@@ -198,53 +169,29 @@ impl Given {
     }
 }
 
-impl Scan {
-    // What the words say with one more.
-    fn hear(self, word: &str) -> Result<Scan, Reason>
-        ensures { result ≡ heard self.given self.awaited word.now }
-    {
-        match self.awaited {
-            Some(flag) => self.given.hear_value(flag, word),
-            None if is_option(word.as_bytes()) => self.given.hear_option(flag_of(word)),
-            None => Ok(self),
-        }
-    }
-
-    // What the words say, if no value is missing behind the last.
-    fn end(self, words: usize) -> Result<Given, Fault>
-        ensures { result ≡ ended words self.given self.awaited }
-    {
-        match self.awaited {
-            Some(flag) => Err(Fault {
-                place: words,
-                reason: Reason::NoValue(flag),
-            }),
-            None => Ok(self.given),
-        }
-    }
-}
-
 // The values of the options among the words, or the first word that cannot be used.
 pub fn parse_options(words: &[String]) -> Result<Given, Fault>
     ensures { result ≡ given_by (map string_bytes words.now) }
 {
-    let given = Given {
-        instances: None,
-        bindings: None,
-        delay: None,
-        layers: None,
-    };
-    let mut scan = Scan {
-        given,
-        awaited: None,
-    };
-    for (place, word) in words.iter().enumerate() {
-        match scan.hear(word.as_str()) {
-            Ok(next) => scan = next,
-            Err(reason) => return Err(Fault { place, reason }),
+    let mut given = Given::default();
+    let mut words = words.iter().enumerate();
+    while let Some((place, word)) = words.next() {
+        if is_option(word.as_str()) {
+            let flag = given
+                .next_flag(word.as_str())
+                .map_err(|reason| Fault { place, reason })?;
+            let Some((place, value)) = words.next() else {
+                return Err(Fault {
+                    place: place + 1,
+                    reason: Reason::NoValue(flag),
+                });
+            };
+            given = given
+                .with_value(flag, value.as_str())
+                .map_err(|reason| Fault { place, reason })?;
         }
     }
-    scan.end(words.len())
+    Ok(given)
 }
 
 // The place of the plain word that has so many plain words before it.
@@ -252,12 +199,11 @@ pub fn plain_place(words: &[String], nth: usize) -> Option<usize>
     ensures { result ≡ plain_place_of nth (map string_bytes words.now) }
 {
     let mut left = nth;
-    let mut is_value = false;
-    for (place, word) in words.iter().enumerate() {
-        if is_value {
-            is_value = false;
-        } else if is_option(word.as_bytes()) {
-            is_value = true;
+    let mut words = words.iter().enumerate();
+    while let Some((place, word)) = words.next() {
+        if is_option(word.as_str()) {
+            // The value behind it.
+            words.next();
         } else if left == 0 {
             return Some(place);
         } else {
@@ -283,10 +229,7 @@ mod tests {
 
     fn options(rt: &HostRuntime, text: &str) -> Result<Result<HostOptions, Fault>, Fail> {
         let words = words(rt, text)?;
-        match parse_options(words.as_slice()) {
-            Ok(given) => Ok(Ok(given.host_options())),
-            Err(fault) => Ok(Err(fault)),
-        }
+        Ok(parse_options(words.as_slice()).map(Given::host_options))
     }
 
     fn host(

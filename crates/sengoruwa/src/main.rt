@@ -132,7 +132,7 @@ fn fault_text(reason: Reason) -> &'static str {
 fn fault_word(words: &[String], fault: Fault) -> &str {
     match (words.get(fault.place), fault.reason) {
         (Some(word), _) => word.as_str(),
-        (None, Reason::NoValue(flag)) => flag.text(),
+        (None, Reason::NoValue(flag)) => flag.as_str(),
         (None, _) => "",
     }
 }
