@@ -1,6 +1,6 @@
 -- The answers of the verifying layer are those of a host. Assumes nothing.
-use Rattle.std.proofs.Common.{◌≡◌, ℕ, ◌≤◌, Bool, true, false, not, ◌&&◌, eqb, is_some, Some, None, Ok, Err, Option, sym, refl, ap, ◌∙◌, true≢false, arith}
-use Rattle.std.proofs.lemmas.Bool.{and_from, and_parts, both_ways, eq-eqb, eqb-true}
+use Rattle.std.proofs.Common.{◌≡◌, ℕ, ◌≤◌, Bool, true, false, not, ◌&&◌, eqb, is_some, Some, None, Ok, Err, Option, sym, refl, ap, ◌∙◌, inl, inr, true≢false, arith}
+use Rattle.std.proofs.lemmas.Bool.{and_from, and_parts, both_ways, cases_Bool, eq-eqb, eqb-true}
 use Rattle.model.specs.declared.order.Order.{Order}
 use Rattle.model.proofs.Searches.{refuted}
 use Rattle.hosts.specs.declared.refusal.Offence.{Offence}
@@ -9,7 +9,7 @@ use Rattle.hosts.specs.Survey.{Situation}
 use Rattle.hosts.specs.Service.{Profile, Sane, Service}
 use Rattle.hosts.specs.Offences.{offence, refused_if}
 use Rattle.hosts.specs.Answers.{Answer, Answered, Meaning, UpTo, decision, illegal_or, full_test, is_tested, leaves_gap, meaning}
-use Rattle.layers.specs.Verifying.{above, stopped, watched}
+use Rattle.layers.specs.Verifying.{Relayed, above, stopped, watched}
 
 -- a watchful host decides as one that is not, unless a tested order without offence leaves a gap
 same_rule : (x : Option Offence) (w t g f : Bool) → (x ≡ None → t ≡ true → g ≡ false) →
@@ -61,7 +61,7 @@ up_to h (Ok x) l u = tt
 up_to h (Err e) l u = omega arith
 
 -- where the layer stops the order, it answers as a watchful host
-pub stopped_answers : (o : Order) (s : Situation) (v : Service) → Sane v → stopped o (meaning s v) ≡ true →
+stopped_answers : (o : Order) (s : Situation) (v : Service) → Sane v → stopped o (meaning s v) ≡ true →
     Answered o (meaning s (watched v)) (meaning s (watched v)) (Err (record { reason = Gap; height = above v.profile.height }))
 stopped_answers o s v sane e =
     let p = stop_parts o s v e in
@@ -76,7 +76,7 @@ stopped_answers o s v sane e =
     }
 
 -- and where it does not, what the host below answers is what a watchful host answers
-pub passed_answers : (o : Order) (s s' : Situation) (v v' : Service) (r : Answer) → Sane v → stopped o (meaning s v) ≡ false →
+passed_answers : (o : Order) (s s' : Situation) (v v' : Service) (r : Answer) → Sane v → stopped o (meaning s v) ≡ false →
     Answered o (meaning s v) (meaning s' v') r → Answered o (meaning s (watched v)) (meaning s' (watched v')) r
 passed_answers o s s' v v' r sane e b =
     record {
@@ -92,3 +92,13 @@ passed_answers o s s' v v' r sane e b =
         free = record { waits = f.waits; creations = f.creations; bindings = f.bindings; height = up_to _ r sane.height f.height };
       };
     }
+
+-- what the layer relays is what a host answers
+pub relayed_answers : {B : Type 0} (o : Order) (h k : B) (s s' : Situation) (v v' : Service) (r : Answer) → Sane v →
+    (k ≡ h → (s' ≡ s) × (v' ≡ v)) → Relayed o h k (meaning s v) (meaning s' v') r →
+    Answered o (meaning s (watched v)) (meaning s' (watched v')) r
+relayed_answers o h k s s' v v' r sane same a =
+    elim (cases_Bool (stopped o (meaning s v))) [
+      | inl e ↦ let b = a.stops e in let q = same b.0 in rw (b.1, q.0, q.1) (stopped_answers o s v sane e)
+      | inr e ↦ passed_answers o s s' v v' r sane e (a.passes e)
+    ]

@@ -71,14 +71,21 @@ impl<B: Host> Verifying<B> {
 
     // Gives the order to the host below, unless the layer stops it.
     fn relay(&mut self, order: Order) -> Result<(), Refusal>
-        ensures answered { Gives B.Survey.situation (λ h. watched (B.Host.service h)) order self.old.below self.new.below result }
-        ensures relayed { Relays B.Survey.situation B.Host.service order self.old.below self.new.below result }
+        ensures { Relays B.Survey.situation B.Host.service order self.old.below self.new.below result }
     {
         if does_stop(&self.below, order) {
             return Err(self.gap_refusal());
         }
         give(&mut self.below, order)?;
         Ok(())
+    }
+
+    // Takes an order: what is relayed is what a host answers.
+    fn take(&mut self, order: Order) -> Result<(), Refusal>
+        ensures answered { Gives B.Survey.situation (λ h. watched (B.Host.service h)) order self.old.below self.new.below result }
+        ensures relayed { Relays B.Survey.situation B.Host.service order self.old.below self.new.below result }
+    {
+        self.relay(order)
     }
 }
 
@@ -141,34 +148,34 @@ impl<B: Host> Host for Verifying<B> {
         ensures answered { Gives B.Survey.situation (λ h. watched (B.Host.service h)) (Create instance kind) self.old.below self.new.below result }
         ensures relayed { Relays B.Survey.situation B.Host.service (Create instance kind) self.old.below self.new.below result }
     {
-        self.relay(Order::Create { instance, kind })
+        self.take(Order::Create { instance, kind })
     }
 
     fn bind(&mut self, binding: Binding) -> Result<(), Refusal>
         ensures answered { Gives B.Survey.situation (λ h. watched (B.Host.service h)) (Bind binding) self.old.below self.new.below result }
         ensures relayed { Relays B.Survey.situation B.Host.service (Bind binding) self.old.below self.new.below result }
     {
-        self.relay(Order::Bind(binding))
+        self.take(Order::Bind(binding))
     }
 
     fn change(&mut self, instance: u32, state: u32) -> Result<(), Refusal>
         ensures answered { Gives B.Survey.situation (λ h. watched (B.Host.service h)) (Change instance state) self.old.below self.new.below result }
         ensures relayed { Relays B.Survey.situation B.Host.service (Change instance state) self.old.below self.new.below result }
     {
-        self.relay(Order::Change { instance, state })
+        self.take(Order::Change { instance, state })
     }
 
     fn unbind(&mut self, binding: Binding) -> Result<(), Refusal>
         ensures answered { Gives B.Survey.situation (λ h. watched (B.Host.service h)) (Unbind binding) self.old.below self.new.below result }
         ensures relayed { Relays B.Survey.situation B.Host.service (Unbind binding) self.old.below self.new.below result }
     {
-        self.relay(Order::Unbind(binding))
+        self.take(Order::Unbind(binding))
     }
 
     fn delete(&mut self, instance: u32) -> Result<(), Refusal>
         ensures answered { Gives B.Survey.situation (λ h. watched (B.Host.service h)) (Delete instance) self.old.below self.new.below result }
         ensures relayed { Relays B.Survey.situation B.Host.service (Delete instance) self.old.below self.new.below result }
     {
-        self.relay(Order::Delete { instance })
+        self.take(Order::Delete { instance })
     }
 }

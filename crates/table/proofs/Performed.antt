@@ -10,13 +10,11 @@ use Rattle.model.specs.Counts.{instances, bindings}
 use Rattle.model.proofs.Results.{bind_inst, unbind_inst}
 use Rattle.model.proofs.Searches.{any_none}
 use Rattle.model.proofs.Counting.{change_counts, create_counts, delete_counts, instances_most, instances_none, instances_same}
-use Rattle.std.specs.List.{CopiedTo, SameBelow}
 use Rattle.std.proofs.lemmas.Bool.{both_ways}
 use Rattle.table.specs.declared.rows.Row.{Row}
 use Rattle.table.specs.Rows.{binding_of, rank, row, joins, held, Sound, Ordered, Place, Opened, Closed, Kept}
 use Rattle.table.specs.Fit.{Fit, config, standing}
 use Rattle.table.proofs.RowSearch.{held_tells, row_count, stands_at}
-use Rattle.table.proofs.RowTurns.{closed_of, opened_of}
 use Rattle.table.proofs.RowMoves.{held_more, ordered_more, held_less, ordered_less, held_kept}
 use Rattle.table.proofs.Slots.{all_vacant, standing_within, written}
 
@@ -90,10 +88,7 @@ module _ (slots : List (Option Pair)) (rows : List Row) (len count : ℕ) (fit :
 
   -- a row, and its place
   module _ (b : Row) (s : Sound b) (k r : ℕ) (is : k ≡ rank b) (at : Place rows len k r) where
-    module _ (ys : List Row) (size : length ys ≡ length rows) (copied : CopiedTo rows ys r (r + 1) (len - r)) (low : SameBelow rows ys (r + 1)) (room : len < 2048) (out : c.bound b.port b.provider b.requirer ≡ false) where
-      opened : Opened rows ys r len
-      opened = opened_of rows ys r len at.most copied low
-
+    module _ (ys : List Row) (size : length ys ≡ length rows) (opened : Opened rows ys r len) (room : len < 2048) (out : c.bound b.port b.provider b.requirer ≡ false) where
       place : Place rows len (rank b) r
       place = subst (λ n. Place rows len n r) is at
 
@@ -112,10 +107,7 @@ module _ (slots : List (Option Pair)) (rows : List Row) (len count : ℕ) (fit :
       pub row_at : (r < len) × (row rows r ≡ b)
       row_at = stands_at rows len fit.ordered b s k r is at ((held_tells rows len b.port b.provider b.requirer).0 was)
 
-      module _ (ys : List Row) (size : length ys ≡ length rows) (copied : CopiedTo rows ys (r + 1) r (len - (r + 1))) (low : SameBelow rows ys r) where
-        closed : Closed rows ys r len
-        closed = closed_of rows ys r len row_at.0 copied low
-
+      module _ (ys : List Row) (size : length ys ≡ length rows) (closed : Closed rows ys r len) where
         row_out : (p' x' y' : ℕ) → held ys (len - 1) p' x' y' ≡ (held rows len p' x' y' && not (joins b p' x' y'))
         row_out p' x' y' =
             held_less rows ys len fit.ordered r closed p' x' y' ∙ ap (λ d. held rows len p' x' y' && not (joins d p' x' y')) row_at.1

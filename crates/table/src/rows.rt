@@ -1,6 +1,6 @@
 // Rows: bindings as the records hold them, in rising order of provider, requirer and port.
 ghost use Rattle.std.specs.Prelude.{◌≡◌, ◌<◌, ◌≤◌, ◌==◌, length};
-ghost use Rattle.table.specs.Rows.{row_of, rank as rank_of, Kept, Ordered};
+ghost use Rattle.table.specs.Rows.{row_of, rank as rank_of, Closed, Kept, Opened, Ordered};
 
 use model::binding::Binding;
 
@@ -38,6 +38,13 @@ impl Row {
         u32::from(self.provider) * 8192 + u32::from(self.requirer) * 32 + u32::from(self.port)
     }
 
+    // Whether its provider is this instance.
+    pub(crate) fn starts_at(self, instance: u32) -> bool
+        ensures { result ≡ (self.provider == instance) }
+    {
+        u32::from(self.provider) == instance
+    }
+
     // Whether its requirer is this instance.
     pub(crate) fn ends_at(self, instance: u8) -> bool
         ensures { result ≡ (self.requirer == instance) }
@@ -46,9 +53,31 @@ impl Row {
     }
 }
 
+// The functions below take an array with the number of its rows in use: `&mut self.rows[..self.len]` cannot be lent yet
+// by a struct with a ghost field (the borrow checker has no rule for it).
+
+// Moves the rows from `at` on up by one place.
+#[tactic(auto, using(crate::proofs::RowTurns::opened_of))]
+pub(crate) fn open_at(rows: &mut [Row], at: usize, len: usize)
+    requires { (at ≤ len) × (len < length rows.old) }
+    ensures opened { Opened rows.old rows.new at len }
+    ensures size { length rows.new ≡ length rows.old }
+{
+    rows.copy_within(at..len, at + 1);
+}
+
+// Moves the rows behind `at` down by one place.
+#[tactic(auto, using(crate::proofs::RowTurns::closed_of))]
+pub(crate) fn close_at(rows: &mut [Row], at: usize, len: usize)
+    requires { (at < len) × (len ≤ length rows.old) }
+    ensures closed { Closed rows.old rows.new at len }
+    ensures size { length rows.new ≡ length rows.old }
+{
+    rows.copy_within(at + 1..len, at);
+}
+
 // Leaves out those of the first `len` rows whose requirer is the instance, and answers how many are left at the front.
-// Only a `Vec` has `retain`, so the places are counted here; and `&mut self.rows[..self.len]` cannot be lent yet by a struct
-// with a ghost field (the borrow checker has no rule for it), so the number goes beside the rows.
+// Only a `Vec` has `retain`, so the places are counted here.
 pub(crate) fn keep_others(rows: &mut [Row], len: usize, instance: u8) -> usize
     requires in_bounds { len ≤ length rows.old }
     requires ordered { Ordered rows.old len }

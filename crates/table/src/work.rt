@@ -1,5 +1,5 @@
 // What the records tell, and the work of the orders on them.
-ghost use Rattle.std.specs.Prelude.{◌≡◌, ◌<◌, true, false};
+ghost use Rattle.std.specs.Prelude.{◌≡◌, ◌<◌, take, true, false};
 ghost use Rattle.model.specs.declared.order.Order.TheVariants.{Create, Bind, Change, Unbind, Delete};
 ghost use Rattle.model.specs.Config.{empty, stands};
 ghost use Rattle.model.specs.Counts.{instances, bindings};
@@ -9,7 +9,7 @@ ghost use Rattle.table.specs.Rows.{Place, binding_of};
 ghost use Rattle.table.specs.Records.{Able, config_of};
 
 use crate::records::Records;
-use crate::rows::{BLANK_ROW, Row, keep_others};
+use crate::rows::{BLANK_ROW, Row, close_at, keep_others, open_at};
 use model::binding::Binding;
 use model::order::Order;
 use model::pair::Pair;
@@ -49,11 +49,18 @@ impl Records {
         self.len as u32
     }
 
+    // The rows that are in use.
+    fn used_rows(&self) -> &[Row]
+        ensures { result.now ≡ take self.now.len self.now.rows }
+    {
+        &self.rows[..self.len]
+    }
+
     // Where a row of this rank stands, or would stand.
     fn place_of(&self, rank: u32) -> usize
         ensures { Place self.now.rows self.now.len rank result }
     {
-        self.rows[..self.len].partition_point(|row| row.rank() < rank)
+        self.used_rows().partition_point(|row| row.rank() < rank)
     }
 
     // Whether the binding stands.
@@ -76,7 +83,7 @@ impl Records {
             return false;
         }
         let place = self.place_of(instance * 8192);
-        place < self.len && u32::from(self.rows[place].provider) == instance
+        place < self.len && self.rows[place].starts_at(instance)
     }
 
     // An instance of the type, in its state 0.
@@ -104,7 +111,7 @@ impl Records {
         ensures { config_of self.new ≡ result_of (Bind (binding_of row)) (config_of self.old) }
     {
         let place = self.place_of(row.rank());
-        self.rows.copy_within(place..self.len, place + 1);
+        open_at(&mut self.rows, place, self.len);
         self.rows[place] = row;
         self.len += 1;
     }
@@ -116,7 +123,7 @@ impl Records {
         ensures { config_of self.new ≡ result_of (Unbind (binding_of row)) (config_of self.old) }
     {
         let place = self.place_of(row.rank());
-        self.rows.copy_within(place + 1..self.len, place);
+        close_at(&mut self.rows, place, self.len);
         self.len -= 1;
     }
 

@@ -2,10 +2,10 @@ use Rattle.std.proofs.Common.{◌<◌, arith}
 use Rattle.table.proofs.Performed.{bound, bound_fit, len_counts}
 use Rattle.table.proofs.records.Records.bind.Goals as goal
 
-pub copy_within-requires-clause-dest_in_bounds : goal.copy_within-requires-clause-dest_in_bounds
-copy_within-requires-clause-dest_in_bounds c =
+pub open_at-requires : goal.open_at-requires
+open_at-requires c =
     let t = c.args.self.now in
-    omega (arith, len_counts t.slots t.rows t.len t.count t.fit, t.fit.room, c.place_of-place.ensures.most)
+    (c.place_of-place.ensures.most, omega (arith, len_counts t.slots t.rows t.len t.count t.fit, t.fit.room))
 
 pub bounds-self-place : goal.bounds-self-place
 bounds-self-place c =
@@ -19,7 +19,7 @@ invariant_of-self c =
     record {
       fit = bound_fit t.slots t.rows t.len t.count t.fit c.args.row (record { provider = omega arith; requirer = omega arith; port = c.requires.room.0 })
           c.rank.result c.place_of-place.result c.rank.ensures c.place_of-place.ensures
-          c.copy_within.new.self c.copy_within.ensures.len c.copy_within.ensures.by_index.0 c.copy_within.ensures.by_index.1 room c.requires.unbound;
+          c.open_at.new.rows c.open_at.ensures.size c.open_at.ensures.opened room c.requires.unbound;
     }
 
 pub returns : goal.returns
@@ -28,4 +28,4 @@ returns c =
     let room : t.len < 2048 = omega (arith, len_counts t.slots t.rows t.len t.count t.fit) in
     bound t.slots t.rows t.len t.count t.fit c.args.row (record { provider = omega arith; requirer = omega arith; port = c.requires.room.0 })
     c.rank.result c.place_of-place.result c.rank.ensures c.place_of-place.ensures
-    c.copy_within.new.self c.copy_within.ensures.len c.copy_within.ensures.by_index.0 c.copy_within.ensures.by_index.1 room c.requires.unbound
+    c.open_at.new.rows c.open_at.ensures.size c.open_at.ensures.opened room c.requires.unbound

@@ -2,13 +2,13 @@ use Rattle.std.proofs.Common.{arith}
 use Rattle.table.proofs.Performed.{row_at, unbound, unbound_fit}
 use Rattle.table.proofs.records.Records.unbind.Goals as goal
 
-pub copy_within-requires-clause-start_le_end : goal.copy_within-requires-clause-start_le_end
-copy_within-requires-clause-start_le_end c =
+pub close_at-requires : goal.close_at-requires
+close_at-requires c =
     let t = c.args.self.now in
     let at =
     row_at t.slots t.rows t.len t.count t.fit c.args.row (record { provider = omega arith; requirer = omega arith; port = c.requires.in_range })
     c.rank.result c.place_of-place.result c.rank.ensures c.place_of-place.ensures c.requires.standing in
-    omega (arith, at.0)
+    (at.0, omega (arith, t.fit.most, t.fit.room))
 
 pub overflow_sub-self : goal.overflow_sub-self
 overflow_sub-self c =
@@ -24,7 +24,7 @@ invariant_of-self c =
     record {
       fit = unbound_fit t.slots t.rows t.len t.count t.fit c.args.row (record { provider = omega arith; requirer = omega arith; port = c.requires.in_range })
           c.rank.result c.place_of-place.result c.rank.ensures c.place_of-place.ensures c.requires.standing
-          c.copy_within.new.self c.copy_within.ensures.len c.copy_within.ensures.by_index.0 c.copy_within.ensures.by_index.1;
+          c.close_at.new.rows c.close_at.ensures.size c.close_at.ensures.closed;
     }
 
 pub returns : goal.returns
@@ -32,4 +32,4 @@ returns c =
     let t = c.args.self.now in
     unbound t.slots t.rows t.len t.count t.fit c.args.row (record { provider = omega arith; requirer = omega arith; port = c.requires.in_range })
     c.rank.result c.place_of-place.result c.rank.ensures c.place_of-place.ensures c.requires.standing
-    c.copy_within.new.self c.copy_within.ensures.len c.copy_within.ensures.by_index.0 c.copy_within.ensures.by_index.1
+    c.close_at.new.rows c.close_at.ensures.size c.close_at.ensures.closed
