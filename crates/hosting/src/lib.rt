@@ -1,9 +1,9 @@
 // What the command `host` prints of the orders that it gives, made from values.
 #![tactic(auto)]
 
-ghost use Rattle.std.specs.Prelude.{◌≡◌, IfOk, string_bytes, OnOk};
+ghost use Rattle.std.specs.Prelude.{◌≡◌, IfOk, Some, string_bytes};
 ghost use Rattle.hosts.specs.Answers.{meaning};
-ghost use Rattle.hosting.specs.Hosting.{Reported, Told, ToldMore, answer_text_of, answered_line_of, end_line_of, line_of, load_text_of, order_line_of, standing_line_of, survey_line, yes_no_of};
+ghost use Rattle.hosting.specs.Hosting.{Reported, Told, answer_text_of, end_line_of, load_of, load_text, order_line_of, survey_line};
 
 use hosts::host::{Host, give};
 use hosts::refusal::Refusal;
@@ -11,138 +11,113 @@ use hosts::survey::Survey;
 use model::order::Order;
 use rules::gaps::find_gap;
 use std::alloc::{AllocError, Global};
-use text::order_text;
+use std::fmt;
 
-// A host's answer to an order: `done`, or `refused N by HEIGHT`.
-pub fn answer_text(heap: Global, answer: Result<(), Refusal>) -> Result<String, AllocError>
-    ensures { IfOk result (λ s. string_bytes s ≡ answer_text_of answer) }
-{
-    match answer {
-        Ok(()) => String::from_str(heap, "done"),
-        Err(Refusal { reason, height }) => {
-            let number = reason.number();
-            format!(in heap; "refused {number} by {height}")
+// What orders move at a host: the waits that are left, and the allowances.
+#[derive(Clone, Copy, PartialEq, Eq, Debug)]
+pub struct Load {
+    pub waits: u32,
+    pub creations: u32,
+    pub bindings: u32,
+}
+
+impl Load {
+    // The load of a host.
+    pub fn of<B: Host>(host: &B) -> Load
+        ensures { result ≡ load_of (B.service host.now).load }
+    {
+        Load {
+            waits: host.waits(),
+            creations: host.creation_allowance(),
+            bindings: host.binding_allowance(),
         }
     }
 }
 
-// Waits and allowances.
-fn load_text(heap: Global, waits: u32, creations: u32, bindings: u32) -> Result<String, AllocError>
-    ensures { IfOk result (λ s. string_bytes s ≡ load_text_of waits creations bindings) }
-{
-    format!(in heap; "(waits {waits}, creations {creations}, bindings {bindings})")
+impl fmt::Display for Load {
+    ghost output = { λ load. Some (load_text load) };
+
+    fn fmt<W: fmt::Write>(&self, f: &mut fmt::Formatter<W>) -> fmt::Result {
+        let Load {
+            waits,
+            creations,
+            bindings,
+        } = self;
+        write!(
+            f,
+            "(waits {waits}, creations {creations}, bindings {bindings})"
+        )
+    }
 }
 
-// A line of its three parts.
-fn line_of(heap: Global, order: &str, answer: &str, load: &str) -> Result<String, AllocError>
-    ensures { IfOk result (λ s. string_bytes s ≡ line_of order.now answer.now load.now) }
+// A host's answer to an order: `done`, or `refused N by HEIGHT`.
+pub fn answer_text(alloc: Global, answer: Result<(), Refusal>) -> Result<String, AllocError>
+    ensures { IfOk result (λ s. string_bytes s ≡ answer_text_of answer) }
 {
-    format!(in heap; "{order}: {answer} {load}\n")
+    match answer {
+        Ok(()) => String::from_str(alloc, "done"),
+        Err(refusal) => format!(in alloc; "refused {refusal}"),
+    }
 }
 
-// The line of an order: its written form, the answer to it, and waits and allowances after it.
+// The line of an order: its written form, the answer to it, and the load after it.
 pub fn order_line(
-    heap: Global,
+    alloc: Global,
     order: Order,
     answer: Result<(), Refusal>,
-    waits: u32,
-    creations: u32,
-    bindings: u32,
+    load: Load,
 ) -> Result<String, AllocError>
-    ensures { IfOk result (λ s. string_bytes s ≡ order_line_of order answer waits creations bindings) }
+    ensures { IfOk result (λ s. string_bytes s ≡ order_line_of order answer load) }
 {
-    let order = order_text(heap, order)?;
-    let answer = answer_text(heap, answer)?;
-    let load = load_text(heap, waits, creations, bindings)?;
-    line_of(heap, &order, &answer, &load)
-}
-
-// The line of an order that the host just answered.
-fn answered_line<B: Host>(
-    heap: Global,
-    host: &B,
-    order: Order,
-    answer: Result<(), Refusal>,
-) -> Result<String, AllocError>
-    ensures { IfOk result (λ s. string_bytes s ≡ answered_line_of order answer (B.service host.now).load) }
-{
-    let waits = host.waits();
-    let creations = host.creation_allowance();
-    let bindings = host.binding_allowance();
-    order_line(heap, order, answer, waits, creations, bindings)
+    let answer = answer_text(alloc, answer)?;
+    format!(in alloc; "{order}: {answer} {load}\n")
 }
 
 // Gives the host the order, and makes the line that tells of it.
-pub fn order_report<B: Host>(heap: Global, host: &mut B, order: Order) -> Result<String, AllocError>
+pub fn order_report<B: Host>(
+    alloc: Global,
+    host: &mut B,
+    order: Order,
+) -> Result<String, AllocError>
     ensures { IfOk result (λ s. Told order (meaning (B.Survey.situation host.old) (B.service host.old)) (meaning (B.Survey.situation host.new) (B.service host.new)) (string_bytes s)) }
 {
     let answer = give(host, order);
-    answered_line(heap, host, order, answer)
-}
-
-fn yes_no(answer: bool) -> &'static str
-    ensures { result.now ≡ yes_no_of answer }
-{
-    if answer { "yes" } else { "no" }
-}
-
-// How much stands, and the answer to whether it is gap-free.
-fn standing_line(
-    heap: Global,
-    instances: u32,
-    bindings: u32,
-    gap_free: &str,
-) -> Result<String, AllocError>
-    ensures { IfOk result (λ s. string_bytes s ≡ standing_line_of instances bindings gap_free.now) }
-{
-    format!(in heap; "instances {instances}, bindings {bindings}, gap-free {gap_free}\n")
+    order_line(alloc, order, answer, Load::of(host))
 }
 
 // The last line: how much stands, and whether it is gap-free.
 pub fn end_line(
-    heap: Global,
+    alloc: Global,
     instances: u32,
     bindings: u32,
     gap_free: bool,
 ) -> Result<String, AllocError>
     ensures { IfOk result (λ s. string_bytes s ≡ end_line_of instances bindings gap_free) }
 {
-    standing_line(heap, instances, bindings, yes_no(gap_free))
+    let gap_free = if gap_free { "yes" } else { "no" };
+    format!(in alloc; "instances {instances}, bindings {bindings}, gap-free {gap_free}\n")
 }
 
 // The last line for what a survey tells.
-pub fn end_report<S: Survey>(heap: Global, survey: &S) -> Result<String, AllocError>
+pub fn end_report<S: Survey>(alloc: Global, survey: &S) -> Result<String, AllocError>
     ensures { IfOk result (λ s. string_bytes s ≡ survey_line (S.situation survey.now)) }
 {
     let gap_free = find_gap(survey).is_none();
-    end_line(heap, survey.instances(), survey.bindings(), gap_free)
-}
-
-// Gives the host the orders one by one, and adds the lines that tell of them.
-fn tell_orders<B: Host>(
-    heap: Global,
-    text: &mut String,
-    host: &mut B,
-    orders: &[Order],
-) -> Result<(), AllocError>
-    ensures { OnOk result (ToldMore orders.now (meaning (B.Survey.situation host.old) (B.service host.old)) (meaning (B.Survey.situation host.new) (B.service host.new)) (string_bytes text.old) (string_bytes text.new)) }
-{
-    for order in orders {
-        text.push_str(&order_report(heap, host, *order)?)?;
-    }
-    Ok(())
+    end_line(alloc, survey.instances(), survey.bindings(), gap_free)
 }
 
 // Gives the host the orders one by one, and makes the lines that tell of them and the last line.
 pub fn host_report<B: Host>(
-    heap: Global,
+    alloc: Global,
     host: &mut B,
     orders: &[Order],
 ) -> Result<String, AllocError>
     ensures { IfOk result (λ s. Reported orders.now (meaning (B.Survey.situation host.old) (B.service host.old)) (meaning (B.Survey.situation host.new) (B.service host.new)) (string_bytes s)) }
 {
-    let mut text = String::new(heap);
-    tell_orders(heap, &mut text, host, orders)?;
-    text.push_str(&end_report(heap, host)?)?;
+    let mut text = String::new(alloc);
+    for order in orders {
+        text.push_str(&order_report(alloc, host, *order)?)?;
+    }
+    text.push_str(&end_report(alloc, host)?)?;
     Ok(text)
 }

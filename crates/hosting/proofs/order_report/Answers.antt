@@ -1,8 +1,10 @@
+use Rattle.std.proofs.Common.{ap, ◌∙◌}
 use Rattle.std.proofs.lemmas.Result.{IfOk-weaker}
+use Rattle.hosting.specs.Hosting.{order_line_of}
 use Rattle.hosting.proofs.order_report.Goals as goal
 
 pub returns : goal.returns
 returns g c =
-    IfOk-weaker c.answered_line.result _ _
-    (λ s e. record { answer = c.give-answer.result; answered = c.give-answer.ensures; line = e })
-    c.answered_line.ensures
+    IfOk-weaker c.order_line.result _ _
+    (λ s e. record { answer = c.give-answer.result; answered = c.give-answer.ensures; line = e ∙ ap (order_line_of c.args.order c.give-answer.result) c.of.ensures })
+    c.order_line.ensures
