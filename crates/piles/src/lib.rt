@@ -20,7 +20,7 @@ use universe::reading::read;
 
 // An empty cloud of the universe, with the limits and the delay that are chosen.
 fn fresh_cloud(universe: Universe, options: HostOptions) -> Cloud
-    ensures { cloud_of result.table result.waits result.delay ≡ fresh_cloud_of (universe_of universe.tables) options }
+    ensures { cloud_of result ≡ fresh_cloud_of (universe_of universe.tables) options }
 {
     let limits = Limits {
         instances: options.instances,
