@@ -1,6 +1,7 @@
 -- Orders and numbers: the laws of the line code.
 use Rattle.std.proofs.Common.{◌≡◌, ℕ, ◌<◌, Bool, true, false, cond, ◌&&◌, eqb, ◌⊎◌, List, [], ◌∷◌, Ok, Err, Result, sym, refl, ap, ◌∙◌, inl, inr, arith}
 use Rattle.std.proofs.lemmas.Bool.{and_parts, eqb-true}
+use Rattle.std.proofs.lemmas.Bool.Decides.{nat_tests}
 use Rattle.model.specs.declared.order.Order.{Order}
 use Rattle.model.specs.declared.order.Order.TheVariants.{Create, Bind, Change, Unbind, Delete}
 use Rattle.lines.specs.declared.fields.Fields.{Fields}
@@ -24,7 +25,7 @@ Zeros (x ∷ xs) = (x ≡ 0) × Zeros xs
 
 zeros : (xs : List ℕ) → unused xs ≡ true → Zeros xs
 zeros [] h = tt
-zeros (x ∷ xs) h = let k = and_parts (eqb x 0) (unused xs) h in (eqb-true x 0 k.0, zeros xs k.1)
+zeros (x ∷ xs) h = (grind (arith, nat_tests), zeros xs (grind (arith, nat_tests)))
 
 -- a choice is taken, or passed over
 taken : (b : Bool) (o' : Order) (r : Result Order LineRefusal) (o : Order)

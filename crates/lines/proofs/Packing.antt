@@ -2,7 +2,7 @@
 use Rattle.std.proofs.Common.{◌≡◌, ℕ, ◌+◌, ◌*◌, ◌/◌, ◌%◌, ◌^◌, ◌<◌, true, arith}
 use lib.Bits.{bit_or}
 use Rattle.std.proofs.lemmas.Nat.{or_shifted, shr-shr, div-add-mod'}
-use Rattle.std.proofs.lemmas.Bool.{and_parts, lt-ltb, ltb-true}
+use Rattle.std.proofs.lemmas.Bool.Decides.{nat_tests}
 use Rattle.lines.specs.declared.fields.Fields.{Fields}
 use Rattle.lines.specs.Line.{fits, fields_of_line, line_of_fields}
 
@@ -18,33 +18,18 @@ pub record Small (f : Fields) : Type 0 where
 
 pub small : (f : Fields) → fits f ≡ true → Small f
 small f h =
-    let s = and_parts _ _ h in
-    let q = and_parts _ _ s.0 in
-    let t = and_parts _ _ q.0 in
-    let p = and_parts _ _ t.0 in
-    let y = and_parts _ _ p.0 in
-    let x = and_parts _ _ y.0 in
     record {
-      operation = ltb-true _ _ x.0;
-      first = ltb-true _ _ x.1;
-      second = ltb-true _ _ y.1;
-      port = ltb-true _ _ p.1;
-      kind = ltb-true _ _ t.1;
-      state = ltb-true _ _ q.1;
-      spare = ltb-true _ _ s.1;
+      operation = grind (arith, nat_tests);
+      first = grind (arith, nat_tests);
+      second = grind (arith, nat_tests);
+      port = grind (arith, nat_tests);
+      kind = grind (arith, nat_tests);
+      state = grind (arith, nat_tests);
+      spare = grind (arith, nat_tests);
     }
 
 pub fitting : (f : Fields) → Small f → fits f ≡ true
-fitting f s =
-    rw (
-      lt-ltb _ _ s.operation,
-      lt-ltb _ _ s.first,
-      lt-ltb _ _ s.second,
-      lt-ltb _ _ s.port,
-      lt-ltb _ _ s.kind,
-      lt-ltb _ _ s.state,
-      lt-ltb _ _ s.spare,
-    )
+fitting f s = grind (arith, nat_tests)
 
 -- the fields of a number fit, but for the operation of one that is too large
 pub cut : (x : ℕ) → (fields_of_line x).operation < 8 → Small (fields_of_line x)

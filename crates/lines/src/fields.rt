@@ -6,7 +6,7 @@ use crate::refusal::LineRefusal;
 use model::binding::Binding;
 use model::order::Order;
 
-// The operation numbers.
+// The operation numbers. They stay numbers, since the decoder matches them with guards on what must be zero.
 const CREATE: u32 = 1;
 
 const BIND: u32 = 2;
@@ -151,7 +151,8 @@ impl Fields {
         }
     }
 
-    // The number that has the fields, each of which fits its bits.
+    // The number that has the fields, each of which fits its bits: so it is a method, and no `From`.
+    #[tactic(auto, using(crate::proofs::Packing::joined, crate::proofs::Packing::small))]
     pub(crate) fn to_line(self) -> u32
         requires { fits self ≡ true }
         ensures { result ≡ line_of_fields self }

@@ -1,8 +1,9 @@
 -- The law of the written form.
-use Rattle.std.proofs.Common.{◌≡◌, ℕ, ◌^◌, ◌<◌, cond, ◌&&◌, eqb, ltb, List, [], ◌∷◌, ◌++◌, length, get_or, drop, Some, None, decimal, Option, sym, refl, ap, ◌∙◌, subst, inl, inr, arith}
+use Rattle.std.proofs.Common.{◌≡◌, ℕ, ◌^◌, ◌<◌, cond, eqb, List, [], ◌∷◌, ◌++◌, drop, Some, None, decimal, Option, sym, refl, ap, ◌∙◌, subst, inl, inr, arith}
 use Rattle.std.specs.Option.{option_map}
 use Rattle.std.proofs.lemmas.Fmt.{decimal_is_IsNumeral}
-use Rattle.std.proofs.lemmas.Bool.{eqb-true, lt-ltb, ltb-true, cond-true, cond-false, cases_Bool, and_parts, and_from}
+use Rattle.std.proofs.lemmas.Bool.Decides.{nat_tests}
+use Rattle.std.proofs.lemmas.Bool.{eqb-true, cond-true, cond-false, cases_Bool}
 use Rattle.model.specs.declared.order.Order.{Order}
 use Rattle.model.specs.declared.order.Order.TheVariants.{Create, Bind, Change, Unbind, Delete}
 use Rattle.model.specs.Written.{written}
@@ -37,25 +38,14 @@ lettered_told l ds o =
     by_letter l 100 ds o _ _ (told 100 ds o Delete (number_of ds) (λ a. refl) (λ a p. let r = number_reads ds a p in (r.0, (r.1, tt)))) (
     λ e. never None o refl e)))))
 
--- a text whose second byte is a blank
-opened : (bs : List ℕ) → 1 < length bs → get_or bs 1 0 ≡ 32 → bs ≡ get_or bs 0 0 ∷ 32 ∷ drop 2 bs
-opened [] h e = absurd (let no : ⊥ = omega arith in no)
-opened (a ∷ []) h e = absurd (let no : ⊥ = omega arith in no)
-opened (a ∷ b ∷ bs) h e = ap (λ x. a ∷ x ∷ bs) e
-
+-- a text has a letter if a blank is its second byte
 letter_reads : (bs : List ℕ) (l : ℕ) → letter_of_line bs ≡ Some l → bs ≡ l ∷ 32 ∷ drop 2 bs
-letter_reads bs l e =
-    elim (cases_Bool (ltb 1 (length bs) && eqb (get_or bs 1 0) 32)) [
-      | inl it ↦
-          let p = and_parts (ltb 1 (length bs)) (eqb (get_or bs 1 0) 32) it in
-          let found : Some (get_or bs 0 0) ≡ Some l = sym (cond-true (ltb 1 (length bs) && eqb (get_or bs 1 0) 32) (Some (get_or bs 0 0)) None it) ∙ e in
-          let same : get_or bs 0 0 ≡ l = cc in
-          opened bs (ltb-true 1 (length bs) p.0) (eqb-true (get_or bs 1 0) 32 p.1) ∙ ap (λ x. x ∷ 32 ∷ drop 2 bs) same
-      | inr not ↦ never (letter_of_line bs) l (cond-false (ltb 1 (length bs) && eqb (get_or bs 1 0) 32) (Some (get_or bs 0 0)) None not) e
-    ]
+letter_reads [] l e = grind (arith, nat_tests)
+letter_reads (a ∷ []) l e = grind (arith, nat_tests)
+letter_reads (a ∷ b ∷ bs) l e = let p : (a ≡ l) × (b ≡ 32) = grind (arith, nat_tests) in rw (p.0, p.1)
 
 letter_read : (l : ℕ) (ds : List ℕ) → letter_of_line (l ∷ 32 ∷ ds) ≡ Some l
-letter_read l ds = cond-true (ltb 1 (length (l ∷ 32 ∷ ds)) && eqb 32 32) (Some l) None (and_from (ltb 1 (length (l ∷ 32 ∷ ds))) (eqb 32 32) (lt-ltb 1 (length (l ∷ 32 ∷ ds)) (omega arith)) refl)
+letter_read l ds = grind (arith, nat_tests)
 
 ordered_told : (bs : List ℕ) (o : Order) (n : Option ℕ) → letter_of_line bs ≡ n → ordered n (drop 2 bs) ≡ Some o → Writes bs o × Narrow o
 ordered_told bs o None p e = never (ordered None (drop 2 bs)) o refl e

@@ -1,5 +1,5 @@
 -- What numbers, and numbers with blanks between them, are read as.
-use Rattle.std.proofs.Common.{◌≡◌, ℕ, ◌+◌, ◌-◌, ◌*◌, ◌^◌, ◌<◌, ◌≤◌, true, false, ◌&&◌, eqb, ltb, leb, List, [], ◌∷◌, ◌++◌, length, get_or, drop, Some, None, Option, sym, refl, ap, ◌∙◌, inl, inr, arith}
+use Rattle.std.proofs.Common.{◌≡◌, ◌⊎◌, ℕ, ◌+◌, ◌-◌, ◌*◌, ◌^◌, ◌<◌, ◌≤◌, true, false, eqb, List, [], ◌∷◌, ◌++◌, length, get_or, drop, Some, None, Option, sym, refl, ap, ◌∙◌, inl, inr, arith}
 use Rattle.std.specs.Str.Parse.{AllDigits, digits_value_after}
 use Rattle.std.specs.Char.{digit_value}
 use Rattle.std.specs.List.{position_or_len}
@@ -8,7 +8,8 @@ use Rattle.std.proofs.lemmas.List.Sums.{split_at_first, passes_at_first}
 use Rattle.std.proofs.lemmas.List.{take_at, drop_at, drop-drop, length-drop, length-append}
 use Rattle.std.proofs.lemmas.Str.Parse.{digit_from_value}
 use Rattle.std.proofs.lemmas.Str.{digit_value_digit}
-use Rattle.std.proofs.lemmas.Bool.{eqb-true, ne_eqb, lt-ltb, le-leb, ltb-true, leb-true, cond-true, cond-false, cases_Bool, and_parts, and_from}
+use Rattle.std.proofs.lemmas.Bool.Decides.{nat_tests}
+use Rattle.std.proofs.lemmas.Bool.{eqb-true, ne_eqb}
 use Rattle.model.specs.declared.binding.Binding.{Binding}
 use Rattle.text.specs.Written.{digit_test, grown, grown_from, number_from, number_of, front, rest, two, binding_of, pair, joined}
 use Rattle.text.specs.Law.{Spells, SpellsAll, AllNarrow}
@@ -20,41 +21,38 @@ never o x p q = cc
 -- the digit's value, and that of a byte with such a value
 digit_is : (d : ℕ) → digit_test d ≡ true → (digit_value d < 10) × (digit_value d ≡ d - 48)
 digit_is d e =
-    let p = and_parts (leb 48 d) (leb d 57) e in
-    let lo = leb-true 48 d p.0 in
-    let hi = leb-true d 57 p.1 in
-    let v = digit_value_digit d (lo, hi) in
+    let both : (48 ≤ d) × (d ≤ 57) = grind (arith, nat_tests) in
+    let v = digit_value_digit d both in
     (omega arith, omega arith)
 
 is_digit : (d : ℕ) → digit_value d < 10 → (digit_test d ≡ true) × (digit_value d ≡ d - 48)
 is_digit d h =
     let p = digit_from_value d h in
     let v = digit_value_digit d p in
-    (and_from (leb 48 d) (leb d 57) (le-leb 48 d p.0) (le-leb d 57 p.1), omega arith)
+    (grind (arith, nat_tests), omega arith)
 
 -- a number grows as it is read
 after_le : (ds : List ℕ) (k : ℕ) → k ≤ digits_value_after 10 k ds
 after_le [] k = omega arith
 after_le (d ∷ ds) k = let h = after_le ds (k * 10 + digit_value d) in omega arith
 
--- the step that is read
-step_none : (k d : ℕ) → (digit_test d && ltb (k * 10 + (d - 48)) (2 ^ 32)) ≡ false → grown k d ≡ None
-step_none k d e = cond-false (digit_test d && ltb (k * 10 + (d - 48)) (2 ^ 32)) (Some (k * 10 + (d - 48))) None e
+-- a digit is read if the number stays small, and nothing else is
+grows : (k d : ℕ) → digit_test d ≡ true → k * 10 + (d - 48) < 2 ^ 32 → grown k d ≡ Some (k * 10 + (d - 48))
+grows k d t h = grind (arith, nat_tests)
 
-step_some : (k d : ℕ) → (digit_test d && ltb (k * 10 + (d - 48)) (2 ^ 32)) ≡ true → grown k d ≡ Some (k * 10 + (d - 48))
-step_some k d e = cond-true (digit_test d && ltb (k * 10 + (d - 48)) (2 ^ 32)) (Some (k * 10 + (d - 48))) None e
+step : (k d : ℕ) → (grown k d ≡ None) ⊎ ((digit_test d ≡ true) × (k * 10 + (d - 48) < 2 ^ 32))
+step k d = grind (arith, nat_tests)
 
 -- digits that are read have the value that is read
 from_reads : (ds : List ℕ) (k n : ℕ) → k < 2 ^ 32 → number_from (Some k) ds ≡ Some n → AllDigits 10 ds × (digits_value_after 10 k ds ≡ n) × (n < 2 ^ 32)
 from_reads [] k n h e = let same : k ≡ n = cc in (tt, same, omega arith)
 from_reads (d ∷ ds) k n h e =
-    elim (cases_Bool (digit_test d && ltb (k * 10 + (d - 48)) (2 ^ 32))) [
-      | inl it ↦
-          let p = and_parts (digit_test d) (ltb (k * 10 + (d - 48)) (2 ^ 32)) it in
-          let v = digit_is d p.0 in
-          let again = from_reads ds (k * 10 + (d - 48)) n (ltb-true (k * 10 + (d - 48)) (2 ^ 32) p.1) (ap (λ o. number_from o ds) (sym (step_some k d it)) ∙ e) in
+    elim (step k d) [
+      | inl none ↦ never (number_from (grown k d) ds) n (ap (λ o. number_from o ds) none ∙ fold_stays grown_from None (λ x. refl) ds) e
+      | inr it ↦
+          let v = digit_is d it.0 in
+          let again = from_reads ds (k * 10 + (d - 48)) n it.1 (ap (λ o. number_from o ds) (sym (grows k d it.0 it.1)) ∙ e) in
           ((v.0, again.0), ap (λ x. digits_value_after 10 (k * 10 + x) ds) v.1 ∙ again.1, again.2)
-      | inr not ↦ never (number_from (grown k d) ds) n (ap (λ o. number_from o ds) (step_none k d not) ∙ fold_stays grown_from None (λ x. refl) ds) e
     ]
 
 -- digits are read as their value, if that is small
@@ -64,11 +62,11 @@ from_read (d ∷ ds) k n p e h =
     let v = is_digit d p.0 in
     let f : digits_value_after 10 (k * 10 + (d - 48)) ds ≡ n = ap (λ x. digits_value_after 10 (k * 10 + x) ds) (sym v.1) ∙ e in
     let small : k * 10 + (d - 48) < 2 ^ 32 = omega (arith, after_le ds (k * 10 + (d - 48))) in
-    ap (λ o. number_from o ds) (step_some k d (and_from (digit_test d) (ltb (k * 10 + (d - 48)) (2 ^ 32)) v.0 (lt-ltb (k * 10 + (d - 48)) (2 ^ 32) small))) ∙ from_read ds (k * 10 + (d - 48)) n p.1 f h
+    ap (λ o. number_from o ds) (grows k d v.0 small) ∙ from_read ds (k * 10 + (d - 48)) n p.1 f h
 
 -- a list with a digit is read from 0
 number_some : (ds : List ℕ) → 0 < length ds → number_of ds ≡ number_from (Some 0) ds
-number_some ds h = cond-true (ltb 0 (length ds)) (number_from (Some 0) ds) None (lt-ltb 0 (length ds) h)
+number_some ds h = grind (arith, nat_tests)
 
 -- a number is read from a numeral of it, and from nothing else
 pub number_reads : (ds : List ℕ) (n : ℕ) → number_of ds ≡ Some n → Spells ds n × (n < 2 ^ 32)
@@ -114,13 +112,13 @@ parts : (ds es bs : List ℕ) → bs ≡ ds ++ (32 ∷ es) → AllDigits 10 ds �
 parts ds es bs e p = (ap front e ∙ front_after ds es p, ap rest e ∙ rest_after ds es p)
 
 pair_some : (o p : Option ℕ) (r : ℕ × ℕ) → pair o p ≡ Some r → (o ≡ Some r.0) × (p ≡ Some r.1)
-pair_some None p r e = never (pair None p) r refl e
-pair_some (Some a) None r e = never (pair (Some a) None) r refl e
+pair_some None p r e = cc
+pair_some (Some a) None r e = cc
 pair_some (Some a) (Some b) r e = let q : (a, b) ≡ r = cc in (ap (λ (x : ℕ × ℕ). Some x.0) q, ap (λ (x : ℕ × ℕ). Some x.1) q)
 
 joined_some : (o : Option ℕ) (p : Option (ℕ × ℕ)) (j : Binding) → joined o p ≡ Some j → (o ≡ Some j.port) × (p ≡ Some (j.provider, j.requirer))
-joined_some None p j e = never (joined None p) j refl e
-joined_some (Some a) None j e = never (joined (Some a) None) j refl e
+joined_some None p j e = cc
+joined_some (Some a) None j e = cc
 joined_some (Some a) (Some b) j e =
     let q : record { port = a; provider = b.0; requirer = b.1 } ≡ j = cc in
     (ap (λ (x : Binding). Some x.port) q, ap (λ (x : Binding). Some (x.provider, x.requirer)) q)

@@ -83,7 +83,7 @@ fn parse_binding(bytes: &[u8]) -> Option<Binding>
     })
 }
 
-// The order that a line writes, or none where it writes no order.
+// The order that a line writes, or none where it writes no order. A line is bytes that need not be text, so this is no `FromStr`.
 pub fn parse_order(line: &[u8]) -> Option<Order>
     ensures { result ≡ order_of line.now }
 {
