@@ -1,7 +1,6 @@
 pub mod PackedSets
 pub mod Manies
-pub mod KindTurns
-pub mod TableTurns
+pub mod Turns
 pub mod Eaches
 pub mod Checked
 pub mod PackedBack

@@ -1,15 +1,50 @@
 -- Items read in a row, one turn of a loop after the other.
-use Rattle.std.proofs.Common.{◌≡◌, ℕ, suc, ◌+◌, ◌-◌, ◌<◌, ◌≤◌, List, [], ◌∷◌, length, take, drop, set, replicate, Ok, Err, sym, refl, ap, ◌∙◌, add-one, arith, length-set}
-use Rattle.std.proofs.lemmas.List.{drop-drop, drop-set-lt, take-append-drop, length-take-le, length-replicate}
+use Rattle.std.proofs.Common.{◌≡◌, ℕ, suc, ◌+◌, ◌-◌, ◌*◌, ◌<◌, ◌≤◌, List, [], ◌∷◌, ◌++◌, length, take, drop, set, replicate, Ok, Err, sym, refl, ap, ◌∙◌, add-one, add-zero, arith, length-set}
+use Rattle.std.proofs.lemmas.List.{append_assoc, append-nil, drop-drop, drop-set-lt, length-drop, length-replicate, length-take-le, take-append-drop, take_more_set}
 use Rattle.universe.specs.declared.refusal.UniverseRefusal.{UniverseRefusal}
-use Rattle.universe.specs.Reading.{Read, and_then, many, filled}
+use Rattle.universe.specs.declared.tables.State.{State}
+use Rattle.universe.specs.Reading.{Read, and_then, filled, many, state_size, total}
 
-pub then_then : {X Y Z : Type 0} (r : Read X) (f : X → Read Y) (g : Y → Read Z) → and_then (and_then r f) g ≡ and_then r (λ x. and_then (f x) g)
+-- what a loop reads: so many items into places that hold a blank, from a place in the bytes on, as a part of a reading
+pub record Row (X Z : Type 0) : Type 0 where
+  pub one : ℕ → List ℕ → Read X
+  pub size : X → ℕ
+  pub places : ℕ
+  pub blank : X
+  pub count : ℕ
+  pub bytes : List ℕ
+  pub start : ℕ
+  pub finish : List X → Read Z
+  pub whole : Read Z
+
+-- the reading is what was filled in so far, and the reading of what is left
+pub record SoFar {X Z : Type 0} (r : Row X Z) (q : ℕ) (xs : List X) (rest : List ℕ) : Type 0 where
+  pub value : r.whole ≡ and_then (many r.one r.size q (r.count - q) rest) (λ ys. r.finish (take q xs ++ ys))
+  pub len : length xs ≡ r.places
+  pub unfilled : drop q xs ≡ replicate (r.places - q) r.blank
+  pub behind : rest ≡ drop (r.start + total r.size (take q xs)) r.bytes
+  pub long : r.start + total r.size (take q xs) ≤ length r.bytes
+
+pub total_push : {X : Type 0} (size : X → ℕ) (xs : List X) (x : X) → total size (xs ++ (x ∷ [])) ≡ total size xs + size x
+unfolding total
+total_push size [] x = omega arith
+total_push size (y ∷ xs) x = let e = total_push size xs x in omega arith
+
+pub total_states : (ss : List State) → total state_size ss ≡ 9 * length ss
+unfolding total
+total_states [] = refl
+total_states (s ∷ ss) = let e = total_states ss in omega arith
+
+then_then : {X Y Z : Type 0} (r : Read X) (f : X → Read Y) (g : Y → Read Z) → and_then (and_then r f) g ≡ and_then r (λ x. and_then (f x) g)
 then_then (Ok x) f g = refl
 then_then (Err e) f g = refl
 
+then_same : {X Y : Type 0} (r : Read X) (f g : X → Read Y) → ((x : X) → f x ≡ g x) → and_then r f ≡ and_then r g
+then_same (Ok x) f g h = h x
+then_same (Err e) f g h = refl
+
 -- one item more
-pub many_more : {X Z : Type 0} (one : ℕ → List ℕ → Read X) (size : X → ℕ) (q n m : ℕ) (bs : List ℕ) (x : X) (whole : Read Z) (F : List X → Read Z)
+many_more : {X Z : Type 0} (one : ℕ → List ℕ → Read X) (size : X → ℕ) (q n m : ℕ) (bs : List ℕ) (x : X) (whole : Read Z) (F : List X → Read Z)
     → n ≡ suc m → whole ≡ and_then (many one size q n bs) F → one q bs ≡ Ok x
     → whole ≡ and_then (many one size (q + 1) m (drop (size x) bs)) (λ xs. F (x ∷ xs))
 unfolding many
@@ -17,35 +52,57 @@ many_more one size q n m bs x whole F e w h =
     rw add-one ((rw e at w) ∙ rw h (then_then (many one size (suc q) m (drop (size x) bs)) (λ xs. Ok (x ∷ xs)) F))
 
 -- an item that is refused
-pub many_refused : {X Z : Type 0} (one : ℕ → List ℕ → Read X) (size : X → ℕ) (q n m : ℕ) (bs : List ℕ) (e : UniverseRefusal) (whole : Read Z) (F : List X → Read Z)
+many_refused : {X Z : Type 0} (one : ℕ → List ℕ → Read X) (size : X → ℕ) (q n m : ℕ) (bs : List ℕ) (e : UniverseRefusal) (whole : Read Z) (F : List X → Read Z)
     → n ≡ suc m → whole ≡ and_then (many one size q n bs) F → one q bs ≡ Err e → whole ≡ Err e
 unfolding many
 many_refused one size q n m bs e whole F n-is w h = (rw n-is at w) ∙ rw h refl
 
 -- no item is left
-pub many_done : {X Z : Type 0} (one : ℕ → List ℕ → Read X) (size : X → ℕ) (q n : ℕ) (bs : List ℕ) (whole : Read Z) (F : List X → Read Z)
+many_done : {X Z : Type 0} (one : ℕ → List ℕ → Read X) (size : X → ℕ) (q n : ℕ) (bs : List ℕ) (whole : Read Z) (F : List X → Read Z)
     → n ≡ 0 → whole ≡ and_then (many one size q n bs) F → whole ≡ F []
 unfolding many
 many_done one size q n bs whole F e w = rw e at w
 
--- a list of n places, of which all from q on hold d
-pub record Filling {X : Type 0} (n : ℕ) (d : X) (q : ℕ) (xs : List X) : Type 0 where
-  pub len : length xs ≡ n
-  pub rest : drop q xs ≡ replicate (n - q) d
+module _ {X Z : Type 0} (r : Row X Z) where
+  pub row_begins : (rest : List ℕ) → r.whole ≡ and_then (many r.one r.size 0 r.count rest) r.finish → r.start ≤ length r.bytes → rest ≡ drop r.start r.bytes
+      → SoFar r 0 (replicate r.places r.blank) rest
+  unfolding total
+  row_begins rest w l b = record {
+    value = let e : r.count ≡ r.count - 0 = omega arith in w ∙ ap (λ n. and_then (many r.one r.size 0 n rest) r.finish) e;
+    len = length-replicate r.places r.blank;
+    unfilled = let e : r.places ≡ r.places - 0 = omega arith in ap (λ n. replicate n r.blank) e;
+    behind = b ∙ ap (λ i. drop i r.bytes) (sym (add-zero r.start));
+    long = omega arith;
+  }
 
-pub filling_none : {X : Type 0} (n : ℕ) (d : X) → Filling n d 0 (replicate n d)
-filling_none n d = record { len = length-replicate n d; rest = let e : n ≡ n - 0 = omega arith in ap (λ k. replicate k d) e }
+  module _ (q : ℕ) (xs : List X) (rest : List ℕ) (few : r.count ≤ r.places) (lt : q < r.count) (so : SoFar r q xs rest) where
+    left : r.count - q ≡ suc (r.count - (q + 1))
+    left = omega arith
 
-pub filling_more : {X : Type 0} (n : ℕ) (d : X) (q : ℕ) (xs : List X) (x : X) → q < n → Filling n d q xs → Filling n d (q + 1) (set xs q x)
-filling_more n d q xs x l f =
-    let m : n - q ≡ suc (n - (q + 1)) = omega arith in
-    record {
-      len = length-set xs q x ∙ f.len;
-      rest = drop-set-lt (q + 1) xs q x (omega arith) ∙ (sym (drop-drop 1 q xs) ∙ (ap (drop 1) (f.rest ∙ ap (λ k. replicate k d) m)));
-    }
+    pub row_stops : (e : UniverseRefusal) → r.one q rest ≡ Err e → r.whole ≡ Err e
+    row_stops e h = many_refused r.one r.size q (r.count - q) (r.count - (q + 1)) rest e _ _ left so.value h
 
--- what was filled in, and the places behind it
-pub filling_all : {X : Type 0} (n : ℕ) (d : X) (q : ℕ) (xs : List X) → q ≤ n → Filling n d q xs → filled n d (take q xs) ≡ xs
-filling_all n d q xs l f =
-    let e : length (take q xs) ≡ q = length-take-le q xs (omega (arith, f.len)) in
-    rw (e, ← f.rest) (take-append-drop q xs)
+    pub row_more : (x : X) (behind : List ℕ) (i : ℕ) → i ≡ q → r.one q rest ≡ Ok x → r.size x ≤ length rest → behind ≡ drop (r.size x) rest → SoFar r (q + 1) (set xs i x) behind
+    row_more x behind i at h l b =
+        let v = many_more r.one r.size q (r.count - q) (r.count - (q + 1)) rest x _ _ left so.value h in
+        let front : take (q + 1) (set xs q x) ≡ take q xs ++ (x ∷ []) = take_more_set xs q x (omega (arith, so.len)) in
+        let size : r.start + total r.size (take q xs) + r.size x ≡ r.start + total r.size (take q xs ++ (x ∷ [])) = omega (arith, total_push r.size (take q xs) x) in
+        let m : r.places - q ≡ suc (r.places - (q + 1)) = omega arith in
+        rw at (record {
+          value = rw (front, b) (v ∙ then_same _ _ _ (λ ys. ap r.finish (sym (append_assoc (take q xs) (x ∷ []) ys))));
+          len = length-set xs q x ∙ so.len;
+          unfilled = drop-set-lt (q + 1) xs q x (omega arith) ∙ (sym (drop-drop 1 q xs) ∙ (ap (drop 1) (so.unfilled ∙ ap (λ k. replicate k r.blank) m)));
+          behind = rw (front, ← size) (b ∙ (ap (drop (r.size x)) so.behind ∙ drop-drop (r.size x) (r.start + total r.size (take q xs)) r.bytes));
+          long = rw (front, ← size) (let k = (rw (so.behind, length-drop (r.start + total r.size (take q xs)) r.bytes) at l) in omega (arith, so.long));
+        })
+
+  -- no item is left, and the places behind those that were filled in are blank
+  pub row_done : (q : ℕ) (xs : List X) (rest : List ℕ) → r.count ≤ r.places → r.count ≤ q → q ≤ r.count → SoFar r q xs rest
+      → (r.whole ≡ r.finish (take q xs)) × (filled r.places r.blank (take q xs) ≡ xs) × (length (take q xs) ≡ r.count)
+  row_done q xs rest few g l so =
+      let z : r.count - q ≡ 0 = omega arith in
+      let e : length (take q xs) ≡ q = length-take-le q xs (omega (arith, so.len)) in (
+        many_done r.one r.size q (r.count - q) rest _ _ z so.value ∙ ap r.finish (append-nil (take q xs)),
+        rw (e, ← so.unfilled) (take-append-drop q xs),
+        omega arith,
+      )

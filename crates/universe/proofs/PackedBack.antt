@@ -11,6 +11,7 @@ use Rattle.universe.specs.Sets.{has, field}
 use Rattle.universe.specs.Tables.{unused_kind, blank_state, blank_kind, kind_at, universe_of}
 use Rattle.universe.specs.Reading.{many, count_read, count_of, state_read, state_size, kind_of, kind_read, kind_size, tables_of, total, tables_read, word_at}
 use Rattle.universe.specs.Packed.{word_form, state_form, entry_of, rows, kind_form, header_bits, packed_form}
+use Rattle.universe.proofs.Manies.{total_states}
 use Rattle.universe.proofs.PackedSets.{field_has}
 use Rattle.universe.proofs.Eaches.{Each, each_both, each_places, then_ok, if_ok, ok_same, many_each, many_forms}
 use Rattle.universe.proofs.Checked.{state_told, count_told, header_told, file_read}
@@ -90,11 +91,6 @@ kind_made ports bs k b h =
     let d = then_ok (many (state_read ports a.0) state_size 0 a.0 (drop 1 bs)) _ k a.2 in
     let e = many_each (state_read ports a.0) state_size Bytes (λ _. Fitting) bytes_drop (state_fits ports a.0) a.0 0 (drop 1 bs) d.0 (bytes_drop 1 bs b) d.1 in
     record { states = d.0; is = sym (ok_same _ k d.2); each = e.0 }
-
-total_states : (ss : List State) → total state_size ss ≡ 9 * length ss
-unfolding total
-total_states [] = refl
-total_states (s ∷ ss) = let e = total_states ss in omega arith
 
 kind_front : (ports : ℕ) (bs : List ℕ) (k : Kind) → Bytes bs → kind_read ports bs ≡ Ok k → bs ≡ kind_bytes k ++ drop (kind_size k) bs
 unfolding kind_read count_read

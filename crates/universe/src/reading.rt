@@ -9,7 +9,7 @@ use crate::refusal::UniverseRefusal;
 use crate::tables::{Kind, Tables};
 
 // The type at the front of the bytes, and the bytes behind it.
-#[tactic(auto, using(crate::proofs::KindTurns::kind_refused, crate::proofs::KindTurns::kind_begins, crate::proofs::KindTurns::kind_stops, crate::proofs::KindTurns::kind_done))]
+#[tactic(auto, using(crate::proofs::Turns::kind_refused, crate::proofs::Turns::kind_stops, crate::proofs::Turns::kind_done))]
 fn read_kind(ports: u8, bytes: &[u8]) -> Result<(Kind, &[u8]), UniverseRefusal>
     ensures { Splits kind_size result (kind_read ports bytes.now) bytes.now }
 {
@@ -25,7 +25,7 @@ fn read_kind(ports: u8, bytes: &[u8]) -> Result<(Kind, &[u8]), UniverseRefusal>
 }
 
 // The tables that the whole file packs.
-#[tactic(auto, using(crate::proofs::TableTurns::tables_refused, crate::proofs::TableTurns::tables_cut, crate::proofs::TableTurns::tables_done))]
+#[tactic(auto, using(crate::proofs::Turns::tables_refused, crate::proofs::Turns::tables_cut, crate::proofs::Turns::tables_done))]
 fn read_tables(bytes: &[u8]) -> Result<Tables, UniverseRefusal>
     ensures { result ≡ tables_read bytes.now }
 {
