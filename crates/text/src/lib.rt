@@ -28,7 +28,8 @@ fn with_digit(n: u32, byte: u8) -> Option<u32>
     }
 }
 
-// The number that one decimal digit or more write, if it has 32 bits.
+// The number that one decimal digit or more write, if it has 32 bits. A loop, since for `try_fold` it stays open that its
+// answer is the number of all digits.
 #[tactic(auto, using(std::proofs::lemmas::List::Folds::fold_stuck))]
 pub fn parse_number(digits: &[u8]) -> Option<u32>
     ensures { result ≡ number_of digits.now }
@@ -83,7 +84,8 @@ fn parse_binding(bytes: &[u8]) -> Option<Binding>
     })
 }
 
-// The order that a line writes, or none where it writes no order. A line is bytes that need not be text, so this is no `FromStr`.
+// The order that a line writes, or none where it writes no order. A line is bytes that need not be text, so this is no
+// `FromStr`.
 pub fn parse_order(line: &[u8]) -> Option<Order>
     ensures { result ≡ order_of line.now }
 {
