@@ -1,8 +1,8 @@
 -- Tables that were read hold a valid universe.
-use Rattle.std.proofs.Common.{◌≡◌, ℕ, ◌+◌, ◌-◌, ◌*◌, ◌/◌, ◌%◌, ◌^◌, ◌<◌, ◌≤◌, Bool, true, false, not, ◌&&◌, ◌||◌, eqb, ltb, ◌⊎◌, List, [], ◌++◌, length, get_or, drop, replicate, Ok, sym, refl, ap, ◌∙◌, inl, inr, zero-add, arith}
-use native.Mathlib.Nat.{zero-div}
+use Rattle.std.proofs.lemmas.Grind.{common_steps}
+use Rattle.std.proofs.Common.{◌≡◌, ℕ, ◌+◌, ◌-◌, ◌*◌, ◌/◌, ◌%◌, ◌^◌, ◌<◌, ◌≤◌, false, ltb, ◌⊎◌, List, [], ◌++◌, length, get_or, drop, replicate, Ok, sym, refl, ap, ◌∙◌, inl, inr, zero-add, arith}
 use Rattle.std.proofs.lemmas.List.{get_or_append_left, get_or-append_right, get_or_past, get_or-replicate, length-append, length-replicate}
-use Rattle.std.proofs.lemmas.Bool.{both_ways, or_parts, eqb-true, eq-eqb, not-false, ltb-false, cases_lt, and_cases}
+use Rattle.std.proofs.lemmas.Bool.{both_ways, cases_lt}
 use Rattle.universe.specs.declared.tables.State.{State}
 use Rattle.universe.specs.declared.tables.Kind.{Kind}
 use Rattle.universe.specs.declared.tables.Tables.{Tables}
@@ -30,45 +30,17 @@ pub record KindOk (ports : ℕ) (k : Kind) : Type 0 where
   pub each : Each (StateOk ports (length states)) 0 states
 
 pub state_told : (ports count q : ℕ) (s s' : State) → state_of ports count q s ≡ Ok s' → (s ≡ s') × StateOk ports count q s
-state_told ports count q s s' h =
-    let a = if_ok (has_from 32 s.provided ports || has_from 32 s.required ports) _ _ s' h in
-    let b = if_ok (has 8 s.successors q || has_from 8 s.successors count) _ _ s' a.1 in
-    let d = if_ok (eqb q 0 && not (eqb s.required 0)) _ (Ok s) s' b.1 in
-    let p = or_parts _ _ a.0 in
-    let n = or_parts _ _ b.0 in
-    (ok_same s s' d.1, record { provided = p.0; required = p.1; itself = n.0; successors = n.1; initial = λ e. zero_of d.0 e })
-  where
-    zero_of : (eqb q 0 && not (eqb s.required 0)) ≡ false → q ≡ 0 → s.required ≡ 0
-    zero_of f e = elim (and_cases (eqb q 0) (not (eqb s.required 0)) f) [
-      | inl x ↦ absurd (both_ways (eqb q 0) x (eq-eqb q 0 e))
-      | inr x ↦ eqb-true s.required 0 (not-false (eqb s.required 0) x)
-    ]
+state_told ports count q s s' h = grind (arith, common_steps)
 
 pub state_ok : (ports count q : ℕ) (bs : List ℕ) (s : State) → state_read ports count q bs ≡ Ok s → StateOk ports count q s
 unfolding state_read
-state_ok ports count q bs s h =
-    let a = if_ok (ltb (length bs) 9) _ _ s h in
-    let t = state_told ports count q _ s a.1 in
-    rw (sym t.0) t.1
+state_ok ports count q bs s h = grind (arith, common_steps)
 
 pub count_told : (bits n : ℕ) → count_of bits ≡ Ok n → (bits / 2 ^ 4 ≡ n) × (bits % 2 ^ 4 ≡ 0) × (1 ≤ n) × (n ≤ 8)
-count_told bits n h =
-    let a = if_ok (ltb (bits / 2 ^ 4) 1 || ltb 8 (bits / 2 ^ 4)) _ _ n h in
-    let b = if_ok (not (eqb (bits % 2 ^ 4) 0)) _ (Ok (bits / 2 ^ 4)) n a.1 in
-    let p = or_parts _ _ a.0 in
-    let e = ok_same (bits / 2 ^ 4) n b.1 in
-    let low = ltb-false (bits / 2 ^ 4) 1 p.0 in
-    let high = ltb-false 8 (bits / 2 ^ 4) p.1 in
-    (e, eqb-true (bits % 2 ^ 4) 0 (not-false _ b.0), omega arith, omega arith)
+count_told bits n h = grind (arith, common_steps)
 
 pub header_told : (bits : ℕ) (h : Header) → header_of_word bits ≡ Ok h → (h ≡ record { types = bits / 2 ^ 11; ports = bits / 2 ^ 5 % 2 ^ 6 }) × (bits % 2 ^ 5 ≡ 0) × (1 ≤ bits / 2 ^ 11) × (bits / 2 ^ 11 ≤ 16) × (bits / 2 ^ 5 % 2 ^ 6 ≤ 32)
-header_told bits h e =
-    let a = if_ok ((ltb (bits / 2 ^ 11) 1 || ltb 16 (bits / 2 ^ 11)) || (ltb (bits / 2 ^ 5 % 2 ^ 6) 0 || ltb 32 (bits / 2 ^ 5 % 2 ^ 6))) _ _ h e in
-    let b = if_ok (not (eqb (bits % 2 ^ 5) 0)) _ (Ok (record { types = bits / 2 ^ 11; ports = bits / 2 ^ 5 % 2 ^ 6 })) h a.1 in
-    let o = or_parts _ _ a.0 in
-    let p = or_parts _ _ o.0 in
-    let q = or_parts _ _ o.1 in
-    (sym (ok_same _ h b.1), eqb-true _ 0 (not-false _ b.0), ltb-false _ 1 p.0, ltb-false 16 _ p.1, ltb-false 32 _ q.1)
+header_told bits h e = grind (arith, common_steps)
 
 abbrev Any : List ℕ → Type 0
 Any bs = Unit {0}
@@ -92,11 +64,7 @@ kind_ok ports bs k h =
 
 pub has_zero : (w p : ℕ) → has w 0 p ≡ false
 unfolding has
-has_zero w p = rw (zero-div (2 ^ (w - 1 - p))) (go (ltb p w))
-  where
-    go : (b : Bool) → (b && eqb (0 % 2) 1) ≡ false
-    go true = refl
-    go false = refl
+has_zero w p = grind (arith, common_steps)
 
 -- the entry of a state is one that passed, or blank
 pub record Tested (u : Tables) (t q : ℕ) : Type 0 where
@@ -197,20 +165,7 @@ pub record FileRead (bs : List ℕ) (u : Tables) : Type 0 where
 
 pub file_read : (bs : List ℕ) (u : Tables) → tables_read bs ≡ Ok u → FileRead bs u
 unfolding tables_read header_read
-file_read bs u h =
-    let a = then_ok (header_read bs) _ u h in
-    let b = then_ok (many (λ _. kind_read a.0.ports) kind_size 0 a.0.types (drop 2 bs)) _ u a.2 in
-    let d = if_ok (not (eqb (2 + total kind_size b.0) (length bs))) _ (Ok (tables_of a.0 b.0)) u b.2 in
-    let l = if_ok (ltb (length bs) 2) _ (header_of_word (get_or bs 0 0 * 256 + get_or bs 1 0)) a.0 a.1 in
-    record {
-      header = a.0;
-      kinds = b.0;
-      is = sym (ok_same _ u d.1);
-      long = ltb-false (length bs) 2 l.0;
-      bits = l.1;
-      row = b.1;
-      end = eqb-true _ (length bs) (not-false _ d.0);
-    }
+file_read bs u h = grind (arith, common_steps)
 
 pub read_sound : (bs : List ℕ) (u : Tables) → tables_read bs ≡ Ok u → Sound u
 read_sound bs u e =

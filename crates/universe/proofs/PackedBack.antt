@@ -1,8 +1,8 @@
 -- What was read is packed again to the bytes that it was read from.
+use Rattle.std.proofs.lemmas.Grind.{common_steps}
 use Rattle.std.proofs.Common.{◌≡◌, ℕ, zero, suc, ◌+◌, ◌-◌, ◌*◌, ◌/◌, ◌%◌, ◌^◌, ◌<◌, ◌≤◌, ltb, List, [], ◌∷◌, ◌++◌, length, get_or, take, drop, replicate, Ok, sym, refl, ap, ◌∙◌, arith}
 use Rattle.std.proofs.lemmas.List.{append-nil, drop-drop, drop_all, take_at, get_or-drop}
 use Rattle.std.proofs.lemmas.Bool.{ltb-false}
-use Rattle.std.proofs.lemmas.Nat.{shr-shr}
 use Rattle.std.specs.List.{flat_map}
 use Rattle.universe.specs.declared.tables.State.{State}
 use Rattle.universe.specs.declared.tables.Kind.{Kind}
@@ -43,13 +43,7 @@ front n bs l = go n 0 bs l
 
 -- the four bytes of a word come back
 word_back : (a b c d : ℕ) → b < 2 ^ 8 → c < 2 ^ 8 → d < 2 ^ 8 → word_form (a * 16777216 + b * 65536 + c * 256 + d) ≡ a ∷ (b ∷ (c ∷ (d ∷ [])))
-word_back a b c d lb lc ld =
-    let m = a * 16777216 + b * 65536 + c * 256 + d in
-    let e3 : m / 2 ^ 24 ≡ a = omega arith in
-    let e2 : m / 2 ^ 16 % 2 ^ 8 ≡ b = omega arith in
-    let e1 : m / 2 ^ 8 % 2 ^ 8 ≡ c = omega arith in
-    let e0 : m % 2 ^ 8 ≡ d = omega arith in
-    rw (e3, e2, e1, e0)
+word_back a b c d lb lc ld = grind (arith, common_steps)
 
 -- the sets of the entry fit their fields
 pub record Fitting (s : State) : Type 0 where
@@ -137,9 +131,7 @@ kind_back u t k e made =
 -- the two bytes of the header come back
 header_back : (a b : ℕ) → a < 2 ^ 8 → b < 2 ^ 8 → (types ports : ℕ) → types ≡ (a * 256 + b) / 2 ^ 11 → ports ≡ (a * 256 + b) / 2 ^ 5 % 2 ^ 6 → (a * 256 + b) % 2 ^ 5 ≡ 0
     → (header_bits types ports / 2 ^ 8 ≡ a) × (header_bits types ports % 2 ^ 8 ≡ b)
-header_back a b la lb types ports t p z =
-    let whole : header_bits types ports ≡ a * 256 + b = omega (arith, shr-shr (a * 256 + b) 5 6) in
-    (omega arith, omega arith)
+header_back a b la lb types ports t p z = grind (arith, common_steps)
 
 -- a file that was read is the packed form of what was read
 pub packed_back : (bs : List ℕ) (u : Tables) → Bytes bs → tables_read bs ≡ Ok u → bs ≡ packed_form (universe_of u)

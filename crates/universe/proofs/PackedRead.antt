@@ -1,10 +1,9 @@
 -- The packed form of a universe is read, and what is read is that universe.
-use Rattle.std.proofs.Common.{◌≡◌, ℕ, zero, suc, ◌+◌, ◌-◌, ◌*◌, ◌/◌, ◌%◌, ◌^◌, ◌<◌, ◌≤◌, Bool, true, false, not, ◌&&◌, eqb, ◌⊎◌, List, [], ◌∷◌, ◌++◌, length, get_or, take, drop, replicate, Ok, sym, refl, ap, ◌∙◌, inl, inr, add-zero, add-suc, suc-add, zero-add, arith}
+use Rattle.std.proofs.lemmas.Grind.{common_steps}
+use Rattle.std.proofs.Common.{◌≡◌, ℕ, zero, suc, ◌+◌, ◌-◌, ◌*◌, ◌/◌, ◌%◌, ◌^◌, ◌<◌, ◌≤◌, Bool, true, false, List, [], ◌∷◌, ◌++◌, length, get_or, take, drop, replicate, Ok, sym, refl, ap, ◌∙◌, inl, inr, add-zero, add-suc, suc-add, zero-add, arith}
 use mathlib.Core.Path.{fun_ext}
-use Rattle.std.proofs.lemmas.Nat.{shr-shr, div-add-mod'}
 use Rattle.std.proofs.lemmas.List.{append-nil, drop_at, take_at, length-append, get_or_past}
-use Rattle.std.proofs.lemmas.Bool.{le-ltb, eq-eqb, cases_lt, and_left, and_right}
-use Rattle.std.proofs.lemmas.Bool.Decides.{eqb_tells}
+use Rattle.std.proofs.lemmas.Bool.{le-ltb, eq-eqb, cases_lt}
 use Rattle.std.specs.List.{flat_map}
 use Rattle.model.specs.Universe.{Universe, Valid}
 use Rattle.model.proofs.Searches.{refuted}
@@ -13,7 +12,7 @@ use Rattle.universe.specs.declared.tables.Kind.{Kind}
 use Rattle.universe.specs.declared.groups.Header.{Header}
 use Rattle.universe.specs.Sets.{has, field}
 use Rattle.universe.specs.Tables.{blank_state, blank_kind, kind_at, entry_at, universe_of}
-use Rattle.universe.specs.Reading.{many, header_of_word, header_read, count_of, count_read, state_of, state_read, state_size, kind_of, kind_read, kind_size, tables_of, total, tables_read, word_at}
+use Rattle.universe.specs.Reading.{many, header_of_word, header_read, count_of, count_read, state_read, state_size, kind_of, kind_read, kind_size, tables_of, total, tables_read}
 use Rattle.universe.specs.Packed.{state_form, entry_of, rows, kind_form, header_bits, packed_form}
 use Rattle.universe.proofs.PackedSets.{has_field, has_below, has_past, from_below}
 use Rattle.universe.proofs.Eaches.{Each, each_map, many_reads, get_d_filled}
@@ -56,25 +55,10 @@ unfolding total
 joined_length form size q [] e = refl
 joined_length form size q (x ∷ xs) e = length-append (form x) (flat_map form xs) ∙ rw (e.0, joined_length form size (suc q) xs e.1)
 
--- a word's bytes add up to it
-word_read : (m : ℕ) → m / 2 ^ 24 * 16777216 + m / 2 ^ 16 % 2 ^ 8 * 65536 + m / 2 ^ 8 % 2 ^ 8 * 256 + m % 2 ^ 8 ≡ m
-word_read m = omega (arith, div-add-mod' m 256, div-add-mod' (m / 256) 256, div-add-mod' (m / 65536) 256, shr-shr m 8 8, shr-shr m 16 8)
-
-state_passes : (ports count q : ℕ) (s : State) → StateOk ports count q s → state_of ports count q s ≡ Ok s
-state_passes ports count q s ok =
-    rw (ok.provided, ok.required, ok.itself, ok.successors, first (eqb_tells q 0))
-  where
-    first : ((eqb q 0 ≡ true) × (q ≡ 0)) ⊎ ((eqb q 0 ≡ false) × (q ≡ 0 → ⊥)) → (eqb q 0 && not (eqb s.required 0)) ≡ false
-    first (inl w) = rw (ok.initial w.1) (and_right (eqb q 0) false refl)
-    first (inr w) = and_left (eqb q 0) _ w.0
-
-pub state_read_lem : (ports count q : ℕ) (s : State) (rest : List ℕ) → StateOk ports count q s → (state_read ports count q (state_form s ++ rest) ≡ Ok s) × (drop 9 (state_form s ++ rest) ≡ rest)
+-- an entry is read back from its form
+state_read_lem : (ports count q : ℕ) (s : State) (rest : List ℕ) → StateOk ports count q s → (state_read ports count q (state_form s ++ rest) ≡ Ok s) × (drop 9 (state_form s ++ rest) ≡ rest)
 unfolding state_read
-state_read_lem ports count q s rest ok =
-    (rw (le-ltb (length (state_form s ++ rest)) 9 (omega arith)) (ap (state_of ports count q) same ∙ state_passes ports count q s ok), refl)
-  where
-    same : record { provided = word_at (state_form s ++ rest) 0; required = word_at (state_form s ++ rest) 4; successors = s.successors } ≡ s
-    same = λ i. record { provided = word_read s.provided i; required = word_read s.required i; successors = s.successors }
+state_read_lem ports count q s rest ok = grind (arith, common_steps)
 
 form_length : (ss : List State) → length (flat_map state_form ss) ≡ 9 * length ss
 form_length [] = refl
@@ -87,10 +71,7 @@ kind_length : (ports : ℕ) (k : Kind) → KindOk ports k → length (kind_bytes
 kind_length ports k ok = rw (ok.is, kept ok.states) (let e = form_length ok.states in omega arith)
 
 count_passes : (n : ℕ) → 1 ≤ n → n ≤ 8 → count_of (n * 2 ^ 4) ≡ Ok n
-count_passes n some few =
-    let q : n * 2 ^ 4 / 2 ^ 4 ≡ n = omega arith in
-    let r : n * 2 ^ 4 % 2 ^ 4 ≡ 0 = omega arith in
-    rw (q, r, le-ltb n 1 some, le-ltb 8 n few)
+count_passes n some few = grind (arith, common_steps)
 
 kind_read_lem : (ports : ℕ) (k : Kind) (rest : List ℕ) → KindOk ports k → (kind_read ports (kind_bytes k ++ rest) ≡ Ok k) × (drop (kind_size k) (kind_bytes k ++ rest) ≡ rest)
 unfolding kind_read count_read
@@ -122,12 +103,7 @@ field_all w f low p = elim (cases_lt p w) [
 ]
 
 headers_pass : (types ports : ℕ) → 1 ≤ types → types ≤ 16 → ports ≤ 32 → header_of_word (header_bits types ports / 2 ^ 8 * 256 + header_bits types ports % 2 ^ 8) ≡ Ok (record { types = types; ports = ports })
-headers_pass types ports some few low =
-    let whole : header_bits types ports / 2 ^ 8 * 256 + header_bits types ports % 2 ^ 8 ≡ header_bits types ports = div-add-mod' (header_bits types ports) 256 in
-    let t : header_bits types ports / 2 ^ 11 ≡ types = omega arith in
-    let p : header_bits types ports / 2 ^ 5 % 2 ^ 6 ≡ ports = omega arith in
-    let z : header_bits types ports % 2 ^ 5 ≡ 0 = omega arith in
-    rw (whole, t, p, z, le-ltb types 1 some, le-ltb 16 types few, le-ltb ports 0 (omega arith), le-ltb 32 ports low)
+headers_pass types ports some few low = grind (arith, common_steps)
 
 module _ (u : Universe) (v : Valid u) where
   abbrev states_of : ℕ → List State
