@@ -3,21 +3,21 @@
 #![tactic(auto)]
 
 use console::describe::universe_report;
+use console::failure::Failure;
 use console::hex::parse_hex;
-use console::report::Report;
-use scripts::{lines_report, pack_orders, pack_text, parse_orders, refusal_text, script_lines};
-use std::fs;
+use rows::show_table;
+use scripts::{
+    CutShort, NoOrder, PackFault, lines_report, pack_orders, pack_text, parse_orders, refusal_text,
+    script_lines,
+};
 
-// What is shown of an input.
-#[derive(Clone, Copy)]
-enum Table {
-    Universes,
-    Scripts,
-    Orders,
-}
-
-fn print_report(rt: &HostRuntime, report: Report) -> anyhow::Result<()> {
-    let Report { text, refused } = report;
+// Prints a report, and says so where its text tells otherwise than its outcome.
+fn print_report(rt: &HostRuntime, report: Result<String, Failure<String>>) -> anyhow::Result<()> {
+    let (text, refused) = match report {
+        Ok(text) => (text, false),
+        Err(Failure::Refused(text)) => (text, true),
+        Err(Failure::Memory(error)) => return Err(error.into()),
+    };
     rt.print(text.as_str())?;
     if refused != text.as_str().contains("refused") {
         println!(rt; "the report says otherwise")?;
@@ -25,66 +25,58 @@ fn print_report(rt: &HostRuntime, report: Report) -> anyhow::Result<()> {
     Ok(())
 }
 
+// The universe of a packed file.
+fn show_universe(rt: &HostRuntime, bytes: &[u8]) -> anyhow::Result<()> {
+    print_report(rt, universe_report(rt.alloc(), bytes))
+}
+
 // The lines of a packed script.
 fn show_script(rt: &HostRuntime, bytes: &[u8]) -> anyhow::Result<()> {
-    match script_lines(rt.alloc(), bytes)? {
-        Some(lines) => print_report(rt, lines_report(rt.alloc(), lines.as_slice())?),
-        None => Ok(println!(rt; "no whole lines")?),
+    match script_lines(rt.alloc(), bytes) {
+        Ok(lines) => print_report(rt, lines_report(rt.alloc(), &lines)),
+        Err(Failure::Refused(CutShort)) => Ok(println!(rt; "no whole lines")?),
+        Err(Failure::Memory(error)) => Err(error.into()),
     }
 }
 
 // The packed script of the orders in a text, and its lines.
 fn show_orders(rt: &HostRuntime, text: &[u8]) -> anyhow::Result<()> {
-    let heap = rt.alloc();
-    let orders = match parse_orders(heap, text)? {
+    let alloc = rt.alloc();
+    let orders = match parse_orders(alloc, text) {
         Ok(orders) => orders,
-        Err(line) => return Ok(println!(rt; "line {line} writes no order")?),
-    };
-    match pack_orders(heap, orders.as_slice())? {
-        Ok(bytes) => {
-            rt.print(pack_text(heap, orders.len())?.as_str())?;
-            show_script(rt, bytes.as_slice())
+        Err(Failure::Refused(NoOrder { line })) => {
+            return Ok(println!(rt; "line {line} writes no order")?);
         }
-        Err(fault) => Ok(rt.print(refusal_text(
-            heap,
-            fault.refusal.number(),
-            fault.place,
-        )?.as_str())?),
-    }
-}
-
-fn show(rt: &HostRuntime, table: Table, bytes: &[u8]) -> anyhow::Result<()> {
-    match table {
-        Table::Universes => print_report(rt, universe_report(rt.alloc(), bytes)?),
-        Table::Scripts => show_script(rt, bytes),
-        Table::Orders => show_orders(rt, bytes),
-    }
-}
-
-// One row of a table: a label, and an input in hexadecimal digits.
-fn show_row(rt: &HostRuntime, table: Table, row: &str) -> anyhow::Result<()> {
-    let Some((label, digits)) = row.split_once(" = ") else {
-        return Ok(println!(rt; "a row with no input")?);
+        Err(Failure::Memory(error)) => return Err(error.into()),
     };
-    println!(rt; "{label}:")?;
+    match pack_orders(alloc, &orders) {
+        Ok(bytes) => {
+            rt.print(pack_text(alloc, orders.len())?)?;
+            show_script(rt, &bytes)
+        }
+        Err(Failure::Refused(PackFault { refusal, place })) => {
+            Ok(rt.print(refusal_text(alloc, refusal.number(), place)?)?)
+        }
+        Err(Failure::Memory(error)) => Err(error.into()),
+    }
+}
+
+// What the function shows of the bytes that a row writes in hexadecimal digits.
+fn show_bytes<F: Fn(&HostRuntime, &[u8]) -> anyhow::Result<()>>(
+    rt: &HostRuntime,
+    digits: &str,
+    show: F,
+) -> anyhow::Result<()>
+    requires { F.IsAlwaysCallable show }
+{
     match parse_hex(rt.alloc(), digits.as_bytes())? {
-        Some(bytes) => show(rt, table, bytes.as_slice()),
+        Some(bytes) => show(rt, &bytes),
         None => Ok(println!(rt; "a row with no digits")?),
     }
 }
 
-fn show_table(rt: &HostRuntime, name: &str, table: Table) -> anyhow::Result<()> {
-    println!(rt; "{name}")?;
-    let path = format!(in rt.alloc(); "{name}.txt")?;
-    let rows = fs::read_to_string(rt, path.as_str())?;
-    for row in rows.as_str().lines() {
-        show_row(rt, table, row)?;
-    }
-    Ok(())
-}
-
 fn main(rt: HostRuntime) -> anyhow::Result<()> {
-    show_table(&rt, "universes", Table::Universes)?;
-    show_table(&rt, "scripts", Table::Scripts)?;
-    show_table(&rt, "orders", Table::Orders)
+    show_table(&rt, "universes", |row| show_bytes(&rt, row, show_universe))?;
+    show_table(&rt, "scripts", |row| show_bytes(&rt, row, show_script))?;
+    show_table(&rt, "orders", |row| show_bytes(&rt, row, show_orders))
 }

@@ -1,41 +1,36 @@
 -- The turns of the loop that reads pairs of hexadecimal digits.
-use Rattle.std.proofs.Common.{◌≡◌, ℕ, suc, ◌+◌, ◌-◌, ◌*◌, ◌<◌, ◌≤◌, List, [], ◌∷◌, ◌++◌, get_or, drop, Some, None, Option, sym, refl, ap, ◌∙◌, arith}
-use Rattle.std.proofs.lemmas.List.{append-nil, append_assoc, drop-drop, get_or-drop}
+use Rattle.std.proofs.Common.{◌≡◌, ℕ, ◌+◌, ◌<◌, ◌≤◌, List, [], ◌∷◌, ◌++◌, length, get_or, drop, slice_index, Some, None, Option, sym, refl, ap, ◌∙◌}
+use Rattle.std.proofs.lemmas.List.{append-nil, append_assoc, at_drop_more, at_drop_all}
 use Rattle.console.specs.Hex.{digit_of, byte_of, behind, joined_to, pairs_of}
 
-behind_nil : (o : Option (List ℕ)) → o ≡ behind [] o
-behind_nil None = refl
-behind_nil (Some bs) = refl
+-- the byte of a pair
+abbrev pub pair_of : List ℕ → Option ℕ
+pair_of p = byte_of (digit_of (slice_index p 0)) (digit_of (slice_index p 1))
 
 behind_behind : (xs ys : List ℕ) (o : Option (List ℕ)) → behind xs (behind ys o) ≡ behind (xs ++ ys) o
 behind_behind xs ys None = refl
 behind_behind xs ys (Some bs) = ap Some (sym (append_assoc xs ys bs))
 
--- what n pairs write is what was read, and what the pairs left write
-abbrev pub HexSoFar : ℕ → List ℕ → List ℕ → ℕ → Type 0
-HexSoFar n ds xs i = pairs_of n ds ≡ behind xs (pairs_of (n - i) (drop (2 * i) ds))
+-- before the first pair nothing is read
+pub hex_start : (o : Option (List ℕ)) → behind [] o ≡ o
+hex_start None = refl
+hex_start (Some bs) = refl
 
-pub hex_start : (n : ℕ) (ds : List ℕ) → HexSoFar n ds [] 0
-hex_start n ds = let e : n ≡ n - 0 = omega arith in ap (λ k. pairs_of k ds) e ∙ behind_nil (pairs_of (n - 0) ds)
-
-module _ (n : ℕ) (ds xs : List ℕ) (i : ℕ) where
+module _ (ps : List (List ℕ)) (i : ℕ) (xs : List ℕ) where
   -- the pair at i, and those behind it
-  turn : i < n → pairs_of (n - i) (drop (2 * i) ds) ≡ joined_to (byte_of (digit_of (get_or ds (2 * i) 0)) (digit_of (get_or ds (2 * i + 1) 0))) (pairs_of (n - (i + 1)) (drop (2 * (i + 1)) ds))
+  turn : (o : Option ℕ) → i < length ps → pair_of (get_or ps i []) ≡ o → behind xs (pairs_of (drop i ps)) ≡ behind xs (joined_to o (pairs_of (drop (i + 1) ps)))
   unfolding pairs_of
-  turn l =
-      let left : n - i ≡ suc (n - (i + 1)) = omega arith in
-      let at : 2 * i + 0 ≡ 2 * i = omega arith in
-      let next : 2 * i + 2 ≡ 2 * (i + 1) = omega arith in
-      rw (left, get_or-drop (2 * i) ds 0 0, get_or-drop (2 * i) ds 1 0, drop-drop 2 (2 * i) ds, at, next)
+  turn o h e = ap (behind xs) (at_drop_more pairs_of ps i [] h ∙ ap (λ o. joined_to o (pairs_of (drop (i + 1) ps))) e)
 
-  pub hex_more : (b : ℕ) → HexSoFar n ds xs i → i < n → byte_of (digit_of (get_or ds (2 * i) 0)) (digit_of (get_or ds (2 * i + 1) 0)) ≡ Some b → HexSoFar n ds (xs ++ (b ∷ [])) (i + 1)
-  hex_more b so l e = so ∙ (ap (behind xs) (turn l ∙ ap (λ o. joined_to o (pairs_of (n - (i + 1)) (drop (2 * (i + 1)) ds))) e) ∙ behind_behind xs (b ∷ []) (pairs_of (n - (i + 1)) (drop (2 * (i + 1)) ds)))
+  -- a pair is read
+  pub hex_more : (b : ℕ) → i < length ps → pair_of (get_or ps i []) ≡ Some b → behind (xs ++ (b ∷ [])) (pairs_of (drop (i + 1) ps)) ≡ behind xs (pairs_of (drop i ps))
+  hex_more b h e = sym (turn (Some b) h e ∙ behind_behind xs (b ∷ []) (pairs_of (drop (i + 1) ps)))
 
-  pub hex_none : HexSoFar n ds xs i → i < n → byte_of (digit_of (get_or ds (2 * i) 0)) (digit_of (get_or ds (2 * i + 1) 0)) ≡ None → None ≡ pairs_of n ds
-  hex_none so l e = sym (so ∙ ap (behind xs) (turn l ∙ ap (λ o. joined_to o (pairs_of (n - (i + 1)) (drop (2 * (i + 1)) ds))) e))
+  -- a pair is no byte
+  pub hex_none : i < length ps → pair_of (get_or ps i []) ≡ None → None ≡ behind xs (pairs_of (drop i ps))
+  hex_none h e = sym (turn None h e)
 
-  pub hex_all : HexSoFar n ds xs i → n ≤ i → Some xs ≡ pairs_of n ds
+  -- all pairs are read
+  pub hex_all : length ps ≤ i → Some xs ≡ behind xs (pairs_of (drop i ps))
   unfolding pairs_of
-  hex_all so g =
-      let none : n - i ≡ 0 = omega arith in
-      sym (so ∙ (ap (λ k. behind xs (pairs_of k (drop (2 * i) ds))) none ∙ ap Some (append-nil xs)))
+  hex_all h = sym (ap (behind xs) (at_drop_all pairs_of ps i h) ∙ ap Some (append-nil xs))

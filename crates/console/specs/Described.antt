@@ -1,30 +1,10 @@
 -- The text about a universe file.
-use Rattle.std.specs.Prelude.{ℕ, zero, suc, Bool, cond, List, [], ◌++◌, length, Ok, Err, codes, decimal, ◌==◌}
+use Rattle.std.specs.Prelude.{ℕ, zero, suc, Bool, cond, List, [], ◌++◌, fold, length, Ok, Err, codes, decimal, ◌==◌}
 use Rattle.model.specs.Universe.{Universe}
 use Rattle.universe.specs.declared.tables.Tables.{Tables}
 use Rattle.universe.specs.Reading.{Read}
 use Rattle.universe.specs.Refusals.{universe_number}
 use Rattle.universe.specs.Tables.{universe_of}
-use Rattle.console.specs.declared.describe.Set.{Set}
-use Rattle.console.specs.declared.describe.Set.TheVariants.{Provided, Required, Successors}
-
--- what is in the set of the state q of the type t
-abbrev pub member_of : Universe → Set → ℕ → ℕ → ℕ → Bool
-member_of u Provided t q = u.provides t q
-member_of u Required t q = u.requires t q
-member_of u Successors t q = u.next t q
-
--- the limit that the numbers in the set of a state of the type t stay below
-abbrev pub limit_of : Universe → Set → ℕ → ℕ
-limit_of u Provided t = u.ports
-limit_of u Required t = u.ports
-limit_of u Successors t = u.states t
-
--- what stands before the list of the set
-abbrev pub label_of : Set → List ℕ
-label_of Provided = codes "provides"
-label_of Required = codes "requires"
-label_of Successors = codes "next"
 
 -- nothing is listed
 abbrev pub no_bytes : List ℕ → Bool
@@ -34,18 +14,22 @@ no_bytes bs = length bs == 0
 abbrev pub listed_with : List ℕ → ℕ → List ℕ
 listed_with bs n = bs ++ (cond (no_bytes bs) [] (codes ",") ++ decimal n)
 
+-- the numbers with commas between them
+abbrev pub list_of : List ℕ → List ℕ
+list_of ns = fold listed_with [] ns
+
 -- the numbers below n that pass, with commas between them
 unfoldable pub listed : (ℕ → Bool) → ℕ → List ℕ
 listed f zero = []
 listed f (suc n) = let bs = listed f n in cond (f n) (listed_with bs n) bs
 
--- the label of the set and the list, or a dash where the list is empty
-abbrev pub labelled_list : Set → List ℕ → List ℕ
-labelled_list set bs = label_of set ++ (codes " " ++ cond (no_bytes bs) (codes "-") bs)
+-- the label and the list, or a dash where the list is empty
+abbrev pub labelled_list : List ℕ → List ℕ → List ℕ
+labelled_list label bs = label ++ (codes " " ++ cond (no_bytes bs) (codes "-") bs)
 
--- the label of the set of the state q of the type t, and the numbers in it
-unfoldable pub set_text_of : Universe → Set → ℕ → ℕ → List ℕ
-set_text_of u set t q = labelled_list set (listed (member_of u set t q) (limit_of u set t))
+-- the label and the numbers below n that pass
+unfoldable pub set_text_of : List ℕ → (ℕ → Bool) → ℕ → List ℕ
+set_text_of label f n = labelled_list label (listed f n)
 
 -- the texts of the numbers below n, one after the other
 unfoldable pub rows_below : (ℕ → List ℕ) → ℕ → List ℕ
@@ -56,7 +40,7 @@ rows_below row (suc n) = rows_below row n ++ row n
 abbrev pub state_line_of : Universe → ℕ → ℕ → List ℕ
 state_line_of u t q =
     codes "state " ++ (decimal t ++ (codes "/" ++ (decimal q ++ (codes ": " ++ (
-    set_text_of u Provided t q ++ (codes ", " ++ (set_text_of u Required t q ++ (codes ", " ++ (set_text_of u Successors t q ++ codes "\n")))))))))
+    set_text_of (codes "provides") (u.provides t q) u.ports ++ (codes ", " ++ (set_text_of (codes "requires") (u.requires t q) u.ports ++ (codes ", " ++ (set_text_of (codes "next") (u.next t q) (u.states t) ++ codes "\n")))))))))
 
 -- the line of the type t that has k states
 abbrev pub type_line_of : ℕ → ℕ → List ℕ

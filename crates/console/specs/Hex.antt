@@ -1,5 +1,6 @@
 -- Bytes as hexadecimal digits.
-use Rattle.std.specs.Prelude.{ℕ, zero, suc, ◌+◌, ◌-◌, ◌*◌, ◌/◌, ◌%◌, cond, ◌&&◌, List, [], ◌∷◌, ◌++◌, length, drop, Some, None, Option, ◌==◌, nat_le, slice_index}
+use Rattle.std.specs.Prelude.{ℕ, ◌+◌, ◌-◌, ◌*◌, ◌/◌, ◌%◌, cond, ◌&&◌, List, [], ◌∷◌, ◌++◌, length, Some, None, Option, ◌==◌, nat_le, slice_index}
+use Rattle.std.specs.Simd.{first_chunks}
 
 -- the value of a digit, in either case of the letters
 abbrev pub digit_of : ℕ → Option ℕ
@@ -24,11 +25,11 @@ abbrev pub joined_to : Option ℕ → Option (List ℕ) → Option (List ℕ)
 joined_to None o = None
 joined_to (Some b) o = behind (b ∷ []) o
 
--- the bytes of n pairs of digits, if all are digits
-unfoldable pub pairs_of : ℕ → List ℕ → Option (List ℕ)
-pairs_of zero ds = Some []
-pairs_of (suc n) ds = joined_to (byte_of (digit_of (slice_index ds 0)) (digit_of (slice_index ds 1))) (pairs_of n (drop 2 ds))
+-- the bytes of pairs of digits, if all are digits
+unfoldable pub pairs_of : List (List ℕ) → Option (List ℕ)
+pairs_of [] = Some []
+pairs_of (p ∷ ps) = joined_to (byte_of (digit_of (slice_index p 0)) (digit_of (slice_index p 1))) (pairs_of ps)
 
 -- the bytes that the digits write, two for each, if all are digits and their number is even
 abbrev pub bytes_of : List ℕ → Option (List ℕ)
-bytes_of ds = cond (length ds % 2 == 0) (pairs_of (length ds / 2) ds) None
+bytes_of ds = cond (length ds % 2 == 0) (pairs_of (first_chunks 2 (length ds / 2) ds)) None

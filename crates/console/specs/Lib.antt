@@ -1,3 +1,4 @@
 pub mod Refused
+pub mod Told
 pub mod Described
 pub mod Hex

@@ -1,5 +1,5 @@
 // Bytes written as hexadecimal digits.
-ghost use Rattle.std.specs.Prelude.{◌≡◌, ◌/◌, length, IfOk, vec_items};
+ghost use Rattle.std.specs.Prelude.{◌≡◌, IfOk, vec_items};
 ghost use Rattle.console.specs.Hex.{byte_of, bytes_of, digit_of, pairs_of};
 ghost use Rattle.std.specs.Option.{option_map};
 
@@ -24,26 +24,27 @@ fn byte_of(high: u8, low: u8) -> Option<u8>
     Some(digit(high)? * 16 + digit(low)?)
 }
 
-// The bytes of the pairs of digits in a word; none where a character is no digit.
-fn read_pairs(heap: Global, word: &[u8]) -> Result<Option<Vec<u8>>, AllocError>
-    ensures { IfOk result (λ o. option_map vec_items o ≡ pairs_of (length word.now / 2) word.now) }
+// The bytes of pairs of digits; none where a character is no digit.
+fn read_pairs(alloc: Global, pairs: &[[u8; 2]]) -> Result<Option<Vec<u8>>, AllocError>
+    ensures { IfOk result (λ o. option_map vec_items o ≡ pairs_of pairs.now) }
 {
-    let mut bytes = Vec::new(heap);
-    for i in 0..word.len() / 2 {
-        match byte_of(word[2 * i], word[2 * i + 1]) {
-            Some(byte) => bytes.push(byte)?,
-            None => return Ok(None),
-        }
+    let mut bytes = Vec::new(alloc);
+    for [high, low] in pairs {
+        let Some(byte) = byte_of(*high, *low) else {
+            return Ok(None);
+        };
+        bytes.push(byte)?;
     }
     Ok(Some(bytes))
 }
 
 // The bytes that a word of hexadecimal digits writes; none where a character is no digit, or one is left over.
-pub fn parse_hex(heap: Global, word: &[u8]) -> Result<Option<Vec<u8>>, AllocError>
+// None and no `Failure`, since there is nothing to tell of such a word.
+pub fn parse_hex(alloc: Global, word: &[u8]) -> Result<Option<Vec<u8>>, AllocError>
     ensures { IfOk result (λ o. option_map vec_items o ≡ bytes_of word.now) }
 {
-    if word.len() % 2 != 0 {
+    let (pairs, []) = word.as_chunks::<2>() else {
         return Ok(None);
-    }
-    read_pairs(heap, word)
+    };
+    read_pairs(alloc, pairs)
 }

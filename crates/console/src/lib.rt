@@ -2,5 +2,6 @@
 #![tactic(auto)]
 
 pub mod describe;
+pub mod failure;
 pub mod hex;
 pub mod report;

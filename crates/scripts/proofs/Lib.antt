@@ -1,5 +1,4 @@
-pub mod PackTurns
-pub mod ParseTurns
 pub mod ScriptLists
+pub mod PackTurns
 pub mod ScriptTurns
-pub mod WordTurns
+pub mod ParseTurns

@@ -4,6 +4,7 @@ use Rattle.std.proofs.lemmas.List.{at_drop_more, at_drop_all}
 use Rattle.model.specs.declared.order.Order.{Order}
 use Rattle.lines.specs.declared.refusal.LineRefusal.{LineRefusal}
 use Rattle.lines.specs.Line.{encoded}
+use Rattle.scripts.specs.declared.PackFault.{PackFault}
 use Rattle.scripts.specs.Scripts.{after, line_of, line_bytes_of, packed_line, packed}
 use Rattle.scripts.proofs.ScriptLists.{after_append, after_ok, after_err}
 
@@ -12,26 +13,30 @@ line_of_lem : (o : Order) (l : Result ℕ LineRefusal) → l ≡ encoded o → l
 unfolding line_of
 line_of_lem o l e = sym e
 
--- what is packed from a place on, by the answer of the order there
-packed_step : (os : List Order) (i : ℕ) (d : Order) (l : Result ℕ LineRefusal) → i < length os → l ≡ encoded (get_or os i d)
-    → packed i (drop i os) ≡ packed_line i l (packed (i + 1) (drop (i + 1) os))
-unfolding packed
-packed_step os i d l h e =
-    at_drop_more (packed i) os i d h
-    ∙ ap (λ a. packed_line i a (packed (suc i) (drop (i + 1) os))) (line_of_lem (get_or os i d) l e)
-    ∙ ap (λ k. packed_line i l (packed k (drop (i + 1) os))) (sym (add-one i))
+module _ (before : List ℕ) (os : List Order) (i : ℕ) (all : Result (List ℕ) PackFault) (so_far : after before (packed i (drop i os)) ≡ all) where
+  -- what is packed from a place on, by the answer of the order there
+  packed_step : (d : Order) (l : Result ℕ LineRefusal) → i < length os → l ≡ encoded (get_or os i d) → after before (packed_line i l (packed (i + 1) (drop (i + 1) os))) ≡ all
+  unfolding packed
+  packed_step d l h e =
+      sym (ap (after before)
+      (at_drop_more (packed i) os i d h
+      ∙ ap (λ a. packed_line i a (packed (suc i) (drop (i + 1) os))) (line_of_lem (get_or os i d) l e)
+      ∙ ap (λ k. packed_line i l (packed k (drop (i + 1) os))) (sym (add-one i))))
+      ∙ so_far
 
--- a line is packed, and the rest follows
-pub packed_more : (before : List ℕ) (os : List Order) (i x : ℕ) (d : Order) → i < length os → Ok x ≡ encoded (get_or os i d)
-    → after (before ++ line_bytes_of x) (packed (i + 1) (drop (i + 1) os)) ≡ after before (packed i (drop i os))
-packed_more before os i x d h e = after_append before (line_bytes_of x) (packed (i + 1) (drop (i + 1) os)) ∙ sym (ap (after before) (packed_step os i d (Ok x) h e))
+  -- a line is packed, and the rest follows
+  pub packed_more : (d : Order) (l : Result ℕ LineRefusal) (x : ℕ) (bytes line : List ℕ) → i < length os → l ≡ encoded (get_or os i d) → l ≡ Ok x → bytes ≡ before ++ line → line ≡ line_bytes_of x
+      → after bytes (packed (i + 1) (drop (i + 1) os)) ≡ all
+  packed_more d l x bytes line h e is pushed said =
+      ap (λ bs. after bs (packed (i + 1) (drop (i + 1) os))) (pushed ∙ ap (λ l. before ++ l) said)
+      ∙ after_append before (line_bytes_of x) (packed (i + 1) (drop (i + 1) os))
+      ∙ packed_step d (Ok x) h (sym is ∙ e)
 
--- an order that has no line is the fault
-pub packed_fault : (before : List ℕ) (os : List Order) (i : ℕ) (r : LineRefusal) (d : Order) → i < length os → Err r ≡ encoded (get_or os i d)
-    → Err (record { refusal = r; place = i }) ≡ after before (packed i (drop i os))
-packed_fault before os i r d h e = sym (ap (after before) (packed_step os i d (Err r) h e) ∙ after_err before (record { refusal = r; place = i }))
+  -- an order that has no line is the fault
+  pub packed_fault : (d : Order) (l : Result ℕ LineRefusal) (r : LineRefusal) → i < length os → l ≡ encoded (get_or os i d) → l ≡ Err r → Err (record { refusal = r; place = i }) ≡ all
+  packed_fault d l r h e is = sym (after_err before (record { refusal = r; place = i })) ∙ packed_step d (Err r) h (sym is ∙ e)
 
--- behind the last order nothing is packed
-pub packed_end : (before : List ℕ) (os : List Order) (i : ℕ) → length os ≤ i → Ok before ≡ after before (packed i (drop i os))
-unfolding packed
-packed_end before os i h = sym (ap (after before) (at_drop_all (packed i) os i h) ∙ after_ok before [] ∙ ap Ok (append-nil before))
+  -- behind the last order nothing is packed
+  pub packed_end : length os ≤ i → Ok before ≡ all
+  unfolding packed
+  packed_end h = sym (ap (after before) (at_drop_all (packed i) os i h) ∙ after_ok before [] ∙ ap Ok (append-nil before)) ∙ so_far

@@ -1,6 +1,7 @@
 -- Script files and their texts: what is read, printed and written.
-use Rattle.std.specs.Prelude.{ℕ, zero, suc, ◌+◌, ◌*◌, ◌/◌, ◌%◌, Bool, false, cond, ◌||◌, List, [], ◌∷◌, ◌++◌, length, take, drop, is_err, Some, None, Ok, Err, vec_items, codes, decimal, Option, Result, Vec, ◌==◌, slice_index}
+use Rattle.std.specs.Prelude.{ℕ, suc, ◌+◌, ◌*◌, ◌/◌, ◌%◌, Bool, false, cond, ◌||◌, List, [], ◌∷◌, ◌++◌, length, map, is_err, Some, None, Ok, Err, codes, decimal, Option, Result, ◌==◌, slice_index}
 use Rattle.std.specs.Option.{option_map}
+use Rattle.std.specs.Simd.{first_chunks}
 use Rattle.model.specs.declared.order.Order.{Order}
 use Rattle.lines.specs.declared.refusal.LineRefusal.{LineRefusal}
 use Rattle.lines.specs.Line.{line_number, decoded, encoded}
@@ -43,23 +44,13 @@ unfoldable pub lines_refused : List ℕ → Bool
 lines_refused [] = false
 lines_refused (x ∷ xs) = is_err (order_at x) || lines_refused xs
 
--- the number in the first four bytes, the most significant first
-abbrev pub first_word_of : List ℕ → ℕ
-first_word_of bs = slice_index bs 0 * 16777216 + slice_index bs 1 * 65536 + slice_index bs 2 * 256 + slice_index bs 3
-
--- so many numbers of four bytes
-unfoldable pub words : ℕ → List ℕ → List ℕ
-words zero bs = []
-words (suc n) bs = first_word_of bs ∷ words n (drop 4 bs)
+-- the number in four bytes, the most significant first
+abbrev pub word_of : List ℕ → ℕ
+word_of bs = slice_index bs 0 * 16777216 + slice_index bs 1 * 65536 + slice_index bs 2 * 256 + slice_index bs 3
 
 -- the lines of a script file, if its length is a multiple of four
 abbrev pub script_lines_of : List ℕ → Option (List ℕ)
-script_lines_of bs = cond (length bs % 4 == 0) (Some (words (length bs / 4) bs)) None
-
--- the list that was made, or what is wrong
-abbrev pub items_of : {X Z E : Type 0} → Result (Vec X Z) E → Result (List X) E
-items_of (Ok v) = Ok (vec_items v)
-items_of (Err e) = Err e
+script_lines_of bs = cond (length bs % 4 == 0) (Some (map word_of (first_chunks 4 (length bs / 4) bs))) None
 
 -- one item in front of the list, if there is one
 abbrev pub behind : {X E : Type 0} → X → Result (List X) E → Result (List X) E
@@ -99,19 +90,6 @@ unfoldable pub text_lines : List ℕ → List (List ℕ)
 text_lines [] = []
 text_lines (b ∷ bs) = cond (b == 10) ([] ∷ text_lines bs) (in_front b (text_lines bs))
 
--- the place of the first byte 10, or the length
-unfoldable pub line_end : List ℕ → ℕ
-line_end [] = 0
-line_end (b ∷ bs) = let next = suc (line_end bs) in cond (b == 10) 0 next
-
--- what stands before the first byte 10
-abbrev pub first_line : List ℕ → List ℕ
-first_line bs = take (line_end bs) bs
-
--- what stands after the first byte 10
-abbrev pub later_lines : List ℕ → List ℕ
-later_lines bs = drop (line_end bs + 1) bs
-
 -- a line that is passed over: it is empty, or begins with #
 abbrev pub passed : List ℕ → Bool
 passed l = length l == 0 || slice_index l 0 == 35
@@ -119,11 +97,6 @@ passed l = length l == 0 || slice_index l 0 == 35
 -- the orders of a line: none where it is passed over, else the one that it writes
 unfoldable pub line_orders : List ℕ → Option (List Order)
 line_orders l = cond (passed l) (Some []) (option_map (λ o. o ∷ []) (order_of l))
-
--- the orders that a line tells
-abbrev pub told : Option (List Order) → List Order
-told None = []
-told (Some os) = os
 
 -- the orders of a line and of those that follow, or the number of a line that cannot be read
 abbrev pub judged : ℕ → Option (List Order) → Result (List Order) ℕ → Result (List Order) ℕ

@@ -2,14 +2,17 @@
 #![tactic(auto)]
 
 use console::describe::universe_report;
-use console::report::Report;
+use console::failure::Failure;
 use harbour::universe_file;
 use model::order::Order;
 use options::{Fault, Flag, Reason, parse_options, plain_place};
 use piles::host_command_report;
-use scripts::{lines_report, pack_orders, pack_text, parse_orders, refusal_text, script_lines};
+use scripts::{
+    NoOrder, lines_report, pack_orders, pack_text, parse_orders, refusal_text, script_lines,
+};
+use std::alloc::AllocError;
 use std::process::ExitCode;
-use std::{env, fs};
+use std::{env, fmt, fs, io};
 
 const USAGE: &str = "usage:
   sengoruwa demo                 the harbour example from beginning to end
@@ -37,84 +40,130 @@ s 2 2
 u 0 0 2
 ";
 
-// Where the program was called wrongly: the message is printed, and the call counts as refused.
-fn misused(rt: &HostRuntime, message: &str) -> anyhow::Result<bool> {
-    eprintln!(rt; "{message}")?;
-    Ok(true)
+// How the program was called wrongly, and what to do.
+#[derive(Clone, Copy)]
+enum Misuse<'a> {
+    Usage,
+    Unreadable(&'a str),
+    Unwritable(&'a str),
+    CutShort,
+    NoOrder { line: usize, path: &'a str },
+    Option { word: &'a str, reason: Reason },
+    // An example of the program's own cannot be used.
+    Example(&'static str),
 }
 
-// Prints the report, and says whether the call was refused.
-fn print_report(rt: &HostRuntime, report: Report) -> anyhow::Result<bool> {
-    let Report { text, refused } = report;
-    rt.print(text.as_str())?;
-    Ok(refused)
-}
-
-// The bytes of a file; none, with a message, where it cannot be read.
-fn read_file(rt: &HostRuntime, path: &str) -> anyhow::Result<Option<Vec<u8>>> {
-    match fs::read(rt, path) {
-        Ok(bytes) => Ok(Some(bytes)),
-        Err(_) => {
-            eprintln!(rt; "cannot read {path}: name a file that can be read")?;
-            Ok(None)
+impl fmt::Display for Misuse<'_> {
+    fn fmt<W: fmt::Write>(&self, f: &mut fmt::Formatter<W>) -> fmt::Result {
+        match self {
+            Misuse::Usage => f.write_str(USAGE),
+            Misuse::Unreadable(path) => {
+                write!(f, "cannot read {path}: name a file that can be read")
+            }
+            Misuse::Unwritable(path) => {
+                write!(f, "cannot write {path}: name a file that can be written")
+            }
+            Misuse::CutShort => f.write_str(
+                "the script is cut short: a script file has four bytes for each line",
+            ),
+            Misuse::NoOrder { line, path } => write!(
+                f,
+                "line {line} of {path} writes no order: write it as in the usage text"
+            ),
+            Misuse::Option { word, reason } => write!(f, "{word}: {}", fault_text(*reason)),
+            Misuse::Example(message) => f.write_str(message),
         }
     }
 }
 
-fn show_universe(rt: &HostRuntime, path: &str) -> anyhow::Result<bool> {
-    let Some(bytes) = read_file(rt, path)? else {
-        return Ok(true);
-    };
-    print_report(rt, universe_report(rt.alloc(), bytes.as_slice())?)
+// Why a command ends before it is done.
+#[derive(Drop)]
+enum Stop<'a> {
+    // It is refused: the text is printed on standard output.
+    Refused(String),
+    // It is called wrongly: the message is printed on standard error.
+    Misused(Misuse<'a>),
+    // Memory has run out, or a stream cannot be written.
+    Failed(anyhow::Error),
 }
 
-fn show_lines(rt: &HostRuntime, path: &str) -> anyhow::Result<bool> {
-    let Some(bytes) = read_file(rt, path)? else {
-        return Ok(true);
-    };
-    let Some(lines) = script_lines(rt.alloc(), bytes.as_slice())? else {
-        return misused(
-            rt,
-            "the script is cut short: a script file has four bytes for each line",
-        );
-    };
-    print_report(rt, lines_report(rt.alloc(), lines.as_slice())?)
+impl<'a> From<Misuse<'a>> for Stop<'a> {
+    fn from(misuse: Misuse<'a>) -> Stop<'a> {
+        Stop::Misused(misuse)
+    }
 }
 
-// The orders of a text file; none, with a message, where it has none.
-fn read_orders(rt: &HostRuntime, path: &str) -> anyhow::Result<Option<Vec<Order>>> {
-    let Some(text) = read_file(rt, path)? else {
-        return Ok(None);
-    };
-    match parse_orders(rt.alloc(), text.as_slice())? {
-        Ok(orders) => Ok(Some(orders)),
-        Err(line) => {
-            eprintln!(rt; "line {line} of {path} writes no order: write it as in the usage text")?;
-            Ok(None)
+impl From<AllocError> for Stop<'_> {
+    fn from(error: AllocError) -> Self {
+        Stop::Failed(error.into())
+    }
+}
+
+impl From<io::Error> for Stop<'_> {
+    fn from(error: io::Error) -> Self {
+        Stop::Failed(error.into())
+    }
+}
+
+impl From<Failure<String>> for Stop<'_> {
+    fn from(failure: Failure<String>) -> Self {
+        match failure {
+            Failure::Refused(text) => Stop::Refused(text),
+            Failure::Memory(error) => Stop::from(error),
         }
     }
+}
+
+impl<'a> From<Failure<Misuse<'a>>> for Stop<'a> {
+    fn from(failure: Failure<Misuse<'a>>) -> Stop<'a> {
+        match failure {
+            Failure::Refused(misuse) => Stop::Misused(misuse),
+            Failure::Memory(error) => Stop::from(error),
+        }
+    }
+}
+
+// The bytes of a file.
+fn read_file<'a>(rt: &HostRuntime, path: &'a str) -> Result<Vec<u8>, Misuse<'a>> {
+    fs::read(rt, path).map_err(|_| Misuse::Unreadable(path))
+}
+
+fn show_universe<'a>(rt: &HostRuntime, path: &'a str) -> Result<(), Stop<'a>> {
+    let bytes = read_file(rt, path)?;
+    Ok(rt.print(universe_report(rt.alloc(), &bytes)?)?)
+}
+
+fn show_lines<'a>(rt: &HostRuntime, path: &'a str) -> Result<(), Stop<'a>> {
+    let bytes = read_file(rt, path)?;
+    let lines = script_lines(rt.alloc(), &bytes).map_err(|failure| failure.map(
+        |_| Misuse::CutShort,
+    ))?;
+    Ok(rt.print(lines_report(rt.alloc(), &lines)?)?)
+}
+
+// The orders of a text file.
+fn read_orders<'a>(rt: &HostRuntime, path: &'a str) -> Result<Vec<Order>, Stop<'a>> {
+    let text = read_file(rt, path)?;
+    let orders = parse_orders(rt.alloc(), &text).map_err(|failure| failure.map(|NoOrder {
+        line,
+    }| Misuse::NoOrder { line, path }))?;
+    Ok(orders)
 }
 
 // Packs the orders and writes the script; an order that does not fit leaves the file as it was.
-fn pack(rt: &HostRuntime, orders: &str, path: &str) -> anyhow::Result<bool> {
-    let heap = rt.alloc();
-    let Some(orders) = read_orders(rt, orders)? else {
-        return Ok(true);
+fn pack<'a>(rt: &HostRuntime, orders: &'a str, path: &'a str) -> Result<(), Stop<'a>> {
+    let alloc = rt.alloc();
+    let orders = read_orders(rt, orders)?;
+    let bytes = match pack_orders(alloc, &orders) {
+        Ok(bytes) => bytes,
+        Err(Failure::Refused(fault)) => {
+            let text = refusal_text(alloc, fault.refusal.number(), fault.place)?;
+            return Err(Stop::Refused(text));
+        }
+        Err(Failure::Memory(error)) => return Err(Stop::from(error)),
     };
-    match pack_orders(heap, orders.as_slice())? {
-        Ok(bytes) => {
-            if fs::write(rt, path, bytes.as_slice()).is_err() {
-                eprintln!(rt; "cannot write {path}: name a file that can be written")?;
-                return Ok(true);
-            }
-            rt.print(pack_text(heap, orders.len())?.as_str())?;
-            Ok(false)
-        }
-        Err(fault) => {
-            rt.print(refusal_text(heap, fault.refusal.number(), fault.place)?.as_str())?;
-            Ok(true)
-        }
-    }
+    fs::write(rt, path, bytes.as_slice()).map_err(|_| Misuse::Unwritable(path))?;
+    Ok(rt.print(pack_text(alloc, orders.len())?)?)
 }
 
 // What is wrong with an option, and what to do.
@@ -138,11 +187,11 @@ fn fault_word(words: &[String], fault: Fault) -> &str {
 }
 
 // The option among the words that cannot be used, and why.
-fn misused_option(rt: &HostRuntime, words: &[String], fault: Fault) -> anyhow::Result<bool> {
-    let word = fault_word(words, fault);
-    let text = fault_text(fault.reason);
-    eprintln!(rt; "{word}: {text}")?;
-    Ok(true)
+fn misused_option(words: &[String], fault: Fault) -> Misuse<'_> {
+    Misuse::Option {
+        word: fault_word(words, fault),
+        reason: fault.reason,
+    }
 }
 
 // The plain word that has so many plain words before it.
@@ -152,72 +201,59 @@ fn plain_word(words: &[String], nth: usize) -> Option<&str> {
 }
 
 // Gives the orders of a text file to a fresh host of the universe.
-fn host(rt: &HostRuntime, words: &[String]) -> anyhow::Result<bool> {
-    let options = match parse_options(words) {
-        Ok(given) => given.host_options(),
-        Err(fault) => return misused_option(rt, words, fault),
-    };
+fn host<'a>(rt: &HostRuntime, words: &'a [String]) -> Result<(), Stop<'a>> {
+    let given = parse_options(words).map_err(|fault| misused_option(words, fault))?;
     let (Some(universe), Some(orders), None) = (
         plain_word(words, 0),
         plain_word(words, 1),
         plain_word(words, 2),
     ) else {
-        return misused(rt, USAGE);
+        return Err(Stop::Misused(Misuse::Usage));
     };
-    let Some(universe) = read_file(rt, universe)? else {
-        return Ok(true);
-    };
-    let Some(orders) = read_orders(rt, orders)? else {
-        return Ok(true);
-    };
-    print_report(
-        rt,
-        host_command_report(rt.alloc(), universe.as_slice(), options, orders.as_slice())?,
-    )
+    let universe = read_file(rt, universe)?;
+    let orders = read_orders(rt, orders)?;
+    Ok(rt.print(host_command_report(rt.alloc(), &universe, given.host_options(), &orders)?)?)
 }
 
-fn demo(rt: &HostRuntime) -> anyhow::Result<bool> {
-    let heap = rt.alloc();
+fn demo(rt: &HostRuntime) -> Result<(), Stop<'static>> {
+    let alloc = rt.alloc();
     println!(rt; "The harbour universe, read from its file of 68 bytes:")?;
-    let _ = print_report(rt, universe_report(heap, &universe_file())?)?;
+    rt.print(universe_report(alloc, &universe_file())?)?;
     println!(rt; "The harbour script, packed into lines and read from them again:")?;
-    let Ok(orders) = parse_orders(heap, HARBOUR_ORDERS)? else {
-        return misused(rt, "the orders of the example cannot be read");
-    };
-    let Ok(bytes) = pack_orders(heap, orders.as_slice())? else {
-        return misused(rt, "the orders of the example cannot be packed");
-    };
-    let Some(lines) = script_lines(heap, bytes.as_slice())? else {
-        return misused(rt, "the script of the example cannot be read");
-    };
-    let refused = print_report(rt, lines_report(heap, lines.as_slice())?)?;
-    rt.print(pack_text(heap, lines.len())?.as_str())?;
-    Ok(refused)
+    let orders = parse_orders(alloc, HARBOUR_ORDERS).map_err(|failure| failure.map(
+        |_| Misuse::Example("the orders of the example cannot be read"),
+    ))?;
+    let bytes = pack_orders(alloc, &orders).map_err(|failure| failure.map(|_| Misuse::Example(
+        "the orders of the example cannot be packed",
+    )))?;
+    let lines = script_lines(alloc, &bytes).map_err(|failure| failure.map(|_| Misuse::Example(
+        "the script of the example cannot be read",
+    )))?;
+    rt.print(lines_report(alloc, &lines)?)?;
+    Ok(rt.print(pack_text(alloc, lines.len())?)?)
 }
 
-// Runs the command that the words name; true where it was refused or called wrongly.
-fn run(rt: &HostRuntime, words: &[String]) -> anyhow::Result<bool> {
+// Runs the command that the words name.
+fn run<'a>(rt: &HostRuntime, words: &'a [String]) -> Result<(), Stop<'a>> {
     match words {
         [command] if command.as_str() == "demo" => demo(rt),
         [command, file] if command.as_str() == "universe" => show_universe(rt, file.as_str()),
         [command, file] if command.as_str() == "lines" => show_lines(rt, file.as_str()),
-        [command, orders, file] if command.as_str() == "pack" => pack(
-            rt,
-            orders.as_str(),
-            file.as_str(),
-        ),
+        [command, orders, file] if command.as_str() == "pack" => {
+            pack(rt, orders.as_str(), file.as_str())
+        }
         [command, rest @ ..] if command.as_str() == "host" => host(rt, rest),
-        _ => misused(rt, USAGE),
+        _ => Err(Stop::Misused(Misuse::Usage)),
     }
 }
 
 fn main(rt: HostRuntime) -> anyhow::Result<ExitCode> {
-    let mut words = Vec::new(rt.alloc());
-    for word in env::args(&rt)?.skip(1) {
-        words.push(word)?;
+    let words: Vec<String> = env::args(&rt)?.skip(1).collect(rt.alloc())?;
+    match run(&rt, &words) {
+        Ok(()) => return Ok(ExitCode::SUCCESS),
+        Err(Stop::Refused(text)) => rt.print(text)?,
+        Err(Stop::Misused(misuse)) => eprintln!(&rt; "{misuse}")?,
+        Err(Stop::Failed(error)) => return Err(error),
     }
-    if run(&rt, words.as_slice())? {
-        return Ok(ExitCode::FAILURE);
-    }
-    Ok(ExitCode::SUCCESS)
+    Ok(ExitCode::FAILURE)
 }

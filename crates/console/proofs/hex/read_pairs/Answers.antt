@@ -1,17 +1,19 @@
-use Rattle.std.proofs.Common.{◌/◌, length, vec_items, sym}
+use Rattle.std.proofs.Common.{vec_items, sym, ◌∙◌, arith}
+use Rattle.console.specs.Hex.{pairs_of}
 use Rattle.console.proofs.HexTurns.{hex_start, hex_more, hex_none, hex_all}
 use Rattle.console.proofs.hex.read_pairs.Goals as goal
 
-pub loop-i-init : goal.loop-i-init
-loop-i-init c = rw c.new-bytes.ensures.items (hex_start (length c.args.word.now / 2) c.args.word.now)
+pub loop-high-init : goal.loop-high-init
+loop-high-init c = rw c.new-bytes.ensures.items (hex_start (pairs_of c.args.pairs.now))
 
-pub returns-in-None : goal.returns-in-None
-returns-in-None c = hex_none (length c.args.word.now / 2) c.args.word.now (vec_items c.loop-i.bytes) c.loop-i.i c.loop-i.invariant c.loop-i-test.true (sym c.in-None.ensures)
+pub returns-in_default : goal.returns-in_default
+returns-in_default c =
+    hex_none c.args.pairs.now c.loop-high.high-index (vec_items c.loop-high.bytes) (omega arith) (sym c.byte_of.ensures ∙ c.in_default.is) ∙ c.loop-high.invariant
 
-pub loop-i-preserved : goal.loop-i-preserved
-loop-i-preserved c =
-    let more = hex_more (length c.args.word.now / 2) c.args.word.now (vec_items c.loop-i.bytes) c.loop-i.i c.in-Some.byte c.loop-i.invariant c.loop-i-test.true (sym c.in-Some.ensures) in
-    rw c.in_ok-push-in-Some.ensures.items more
+pub loop-high-preserved : goal.loop-high-preserved
+loop-high-preserved c =
+    rw c.in_ok-push.ensures.items
+    (hex_more c.args.pairs.now c.loop-high.high-index (vec_items c.loop-high.bytes) c.in-Some.byte (omega arith) (sym c.byte_of.ensures ∙ c.in-Some.is) ∙ c.loop-high.invariant)
 
 pub returns : goal.returns
-returns c = hex_all (length c.args.word.now / 2) c.args.word.now (vec_items c.loop-i.bytes) c.loop-i.i c.loop-i.invariant c.loop-i-test.false
+returns c = hex_all c.args.pairs.now c.loop-high.high-index (vec_items c.loop-high.bytes) (omega arith) ∙ c.loop-high.invariant

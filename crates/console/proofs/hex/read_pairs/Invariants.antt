@@ -1,6 +1,6 @@
-use Rattle.std.proofs.Common.{◌/◌, length, vec_items}
-use Rattle.console.proofs.HexTurns.{HexSoFar}
+use Rattle.std.proofs.Common.{◌≡◌, drop, vec_items}
+use Rattle.console.specs.Hex.{behind, pairs_of}
 use Rattle.console.proofs.hex.read_pairs.Given as goal
 
-abbrev pub invariant-loop-i : goal.invariant-loop-i
-invariant-loop-i l = HexSoFar (length l.word / 2) l.word (vec_items l.bytes) l.i
+abbrev pub invariant-loop-high : goal.invariant-loop-high
+invariant-loop-high l = behind (vec_items l.bytes) (pairs_of (drop l.high-index l.pairs)) ≡ pairs_of l.pairs
