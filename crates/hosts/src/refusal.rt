@@ -84,7 +84,8 @@ impl fmt::Display for Reason {
     ghost output = { λ r. Some (decimal (reason_number r)) };
 
     fn fmt<W: fmt::Write>(&self, f: &mut fmt::Formatter<W>) -> fmt::Result {
-        write!(f, "{}", self.number())
+        let number = self.number();
+        write!(f, "{number}")
     }
 }
 
