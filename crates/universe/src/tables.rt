@@ -1,4 +1,5 @@
-// The entries of a universe as plain records.
+// The entries of a universe as plain records. A universe has no heap memory and is copied, so its arrays are as long
+// as they may get, with their counts beside them.
 
 // What one state provides, requires and may change to, each a packed set.
 #[derive(Clone, Copy, PartialEq, Eq, Debug)]
