@@ -47,9 +47,8 @@ fn listed_universe(alloc: Global, digits: &str) -> Result<Option<Universe>, Allo
 fn listed_layers(word: &str) -> Option<Layers> {
     match word {
         "-" => Some(Layers::None),
-        "v" => Some(Layers::Verifying),
-        "vv" => Some(Layers::VerifyingTwice),
-        _ => None,
+        "" => None,
+        _ => word.parse().ok(),
     }
 }
 

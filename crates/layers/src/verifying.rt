@@ -32,6 +32,7 @@ fn does_stop<B: Host>(host: &B, order: Order) -> bool
     ensures { result ≡ stopped order (meaning (B.Survey.situation host.now) (B.service host.now)) }
 {
     match order {
+        // `as`: a state without offence is at most 7.
         Order::Change { instance, state } => {
             is_admitted(host, change_offence(host, instance, state))
                 && find_gap_after_change(host, instance, state as u8).is_some()

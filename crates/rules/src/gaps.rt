@@ -19,7 +19,8 @@ pub struct FoundGap {
     pub port: u32,
 }
 
-// What is looked at: what stands, or what would stand after a change or an unbind.
+// What is looked at: what stands, or what would stand after a change or an unbind. An enum and no closure, since clauses
+// speak of what is foreseen.
 #[derive(Clone, Copy)]
 enum Prospect {
     Present,

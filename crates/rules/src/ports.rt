@@ -7,7 +7,8 @@ ghost use Rattle.rules.specs.Ports.{ever_has, holds_port};
 use hosts::survey::Survey;
 use universe::held::Universe;
 
-// The two ends of a binding: what the provider does with the port, and what the requirer does.
+// The two ends of a binding: what the provider does with the port, and what the requirer does. An enum and no closure,
+// since clauses speak of the role.
 #[derive(Clone, Copy)]
 pub enum Role {
     Provider,

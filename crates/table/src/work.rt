@@ -32,6 +32,8 @@ impl Records {
     pub(crate) fn at(&self, instance: u32) -> Option<Pair>
         ensures { result ≡ (config_of self.now).inst instance }
     {
+        // `as`, here and below where a number is known to fit: `usize` has no `From<u32>`, and `TryFrom` an error that
+        // cannot come.
         *self.slots.get(instance as usize)?
     }
 

@@ -29,6 +29,7 @@ pub fn read_header(bytes: &[u8]) -> Result<(Header, &[u8]), UniverseRefusal>
     if bits % 32 != 0 {
         return Err(UniverseRefusal::ZeroBit);
     }
+    // `as`, here and below where a number is known to fit: `TryFrom` would have an error where none can come.
     let header = Header {
         types: types as u8,
         ports: ports as u8,

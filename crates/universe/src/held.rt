@@ -5,6 +5,8 @@ ghost use Rattle.universe.specs.Tables.{Sound, entry_at, tables_of_least, univer
 use crate::sets::Field;
 use crate::tables::{Kind, State, Tables};
 
+// Its clauses speak of `universe_of` the tables, and it has no `impl Model`: what a universe means has functions in it,
+// which the value of a model may not have.
 #[derive(Clone, Copy)]
 pub struct Universe {
     tables: Tables,
@@ -61,7 +63,8 @@ impl Universe {
         self.tables.ports
     }
 
-    // How many states the type has: none where there is no such type.
+    // How many states the type has: none where there is no such type. Any number may be asked for, so types and states are
+    // numbers of 32 bits, and no `Pair`; `as`, since `usize` has no `From<u32>`.
     pub fn states(&self, kind: u32) -> u8
         ensures { result ≡ (universe_of self.now.tables).states kind }
     {

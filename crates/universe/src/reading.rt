@@ -15,7 +15,7 @@ fn read_kind(ports: u8, bytes: &[u8]) -> Result<(Kind, &[u8]), UniverseRefusal>
 {
     let (count, mut rest) = read_count(bytes)?;
     let mut states = [BLANK_STATE; 8];
-    // By number: no proof knows what is written through `iter_mut`.
+    // By number, as the types below: no proof knows what is written through `iter_mut`.
     for q in 0..count {
         let (state, behind) = read_state(ports, count, q, rest)?;
         states[usize::from(q)] = state;
