@@ -99,13 +99,6 @@ pub fn script_lines(alloc: Global, bytes: &[u8]) -> Result<Vec<u32>, Failure<Cut
     Ok(read_words(alloc, words)?)
 }
 
-// The four bytes of a line.
-fn line_bytes(line: u32) -> [u8; 4]
-    ensures { result ≡ line_bytes_of line }
-{
-    line.to_be_bytes()
-}
-
 // The packed script of the orders, or the first order that has no line.
 #[tactic(auto, using(crate::proofs::PackTurns::packed_end))]
 pub fn pack_orders(alloc: Global, orders: &[Order]) -> Result<Vec<u8>, Failure<PackFault>>
@@ -114,7 +107,7 @@ pub fn pack_orders(alloc: Global, orders: &[Order]) -> Result<Vec<u8>, Failure<P
     let mut bytes = Vec::new(alloc);
     for (place, order) in orders.iter().enumerate() {
         match encode(*order) {
-            Ok(line) => bytes.extend_from_slice(&line_bytes(line))?,
+            Ok(line) => bytes.extend_from_slice(&line.to_be_bytes())?,
             Err(refusal) => return Err(Failure::Refused(PackFault { refusal, place })),
         }
     }
