@@ -37,55 +37,25 @@ fn labelled<I: Iterator<Item = u32>>(
     format!(in alloc; "{label} {shown}")
 }
 
-// The ports that a state provides.
-fn provided_text(
+// The texts of the three sets of a state: what it provides, what it requires, and which states may follow.
+fn set_texts(
     alloc: Global,
     universe: &Universe,
     kind: u32,
     state: u32,
-) -> Result<String, AllocError>
-    ensures { let u = universe_of universe.now.tables in IfOk result (λ s. string_bytes s ≡ set_text_of (codes "provides") (u.provides kind state) u.ports) }
+) -> Result<(String, String, String), AllocError>
+    ensures { let u = universe_of universe.now.tables in IfOk result (λ s. (string_bytes s.0 ≡ set_text_of (codes "provides") (u.provides kind state) u.ports) × (string_bytes s.1 ≡ set_text_of (codes "requires") (u.requires kind state) u.ports) × (string_bytes s.2 ≡ set_text_of (codes "next") (u.next kind state) (u.states kind))) }
 {
     let ports = 0..u32::from(universe.ports());
-    labelled(
-        alloc,
-        "provides",
-        ports.filter(|port| universe.is_provided(kind, state, *port)),
-    )
-}
-
-// The ports that a state requires.
-fn required_text(
-    alloc: Global,
-    universe: &Universe,
-    kind: u32,
-    state: u32,
-) -> Result<String, AllocError>
-    ensures { let u = universe_of universe.now.tables in IfOk result (λ s. string_bytes s ≡ set_text_of (codes "requires") (u.requires kind state) u.ports) }
-{
+    let provided = ports.filter(|port| universe.is_provided(kind, state, *port));
+    let provided = labelled(alloc, "provides", provided)?;
     let ports = 0..u32::from(universe.ports());
-    labelled(
-        alloc,
-        "requires",
-        ports.filter(|port| universe.is_required(kind, state, *port)),
-    )
-}
-
-// The states that may follow a state.
-fn successors_text(
-    alloc: Global,
-    universe: &Universe,
-    kind: u32,
-    state: u32,
-) -> Result<String, AllocError>
-    ensures { let u = universe_of universe.now.tables in IfOk result (λ s. string_bytes s ≡ set_text_of (codes "next") (u.next kind state) (u.states kind)) }
-{
+    let required = ports.filter(|port| universe.is_required(kind, state, *port));
+    let required = labelled(alloc, "requires", required)?;
     let states = 0..u32::from(universe.states(kind));
-    labelled(
-        alloc,
-        "next",
-        states.filter(|next| universe.is_successor(kind, state, *next)),
-    )
+    let next = states.filter(|next| universe.is_successor(kind, state, *next));
+    let next = labelled(alloc, "next", next)?;
+    Ok((provided, required, next))
 }
 
 // The line of one state.
@@ -97,9 +67,7 @@ fn state_line(
 ) -> Result<String, AllocError>
     ensures { IfOk result (λ s. string_bytes s ≡ state_line_of (universe_of universe.now.tables) kind state) }
 {
-    let provided = provided_text(alloc, universe, kind, state)?;
-    let required = required_text(alloc, universe, kind, state)?;
-    let next = successors_text(alloc, universe, kind, state)?;
+    let (provided, required, next) = set_texts(alloc, universe, kind, state)?;
     format!(in alloc; "state {kind}/{state}: {provided}, {required}, {next}\n")
 }
 

@@ -38,9 +38,8 @@ fn read_pairs(alloc: Global, pairs: &[[u8; 2]]) -> Result<Option<Vec<u8>>, Alloc
     Ok(Some(bytes))
 }
 
-// The bytes that a word of hexadecimal digits writes; none where a character is no digit, or one is left over. None, and no
-// error of its own: a caller asks no more than whether there are bytes.
-// None and no `Failure`, since there is nothing to tell of such a word.
+// The bytes that a word of hexadecimal digits writes; none where a character is no digit, or one is left over.
+// `None` and no `Failure`, since there is nothing to tell of such a word.
 pub fn parse_hex(alloc: Global, word: &[u8]) -> Result<Option<Vec<u8>>, AllocError>
     ensures { IfOk result (λ o. option_map vec_items o ≡ bytes_of word.now) }
 {

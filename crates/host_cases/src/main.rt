@@ -18,6 +18,7 @@ use universe::held::Universe;
 use universe::reading::read;
 
 // The orders of a text, with semicolons between them; none where one cannot be read.
+// `None` and no error of its own, here and below: a row asks no more than whether there are any.
 fn listed_orders(alloc: Global, text: &str) -> Result<Option<Vec<Order>>, AllocError> {
     let mut orders = Vec::new(alloc);
     for part in text.split(';') {

@@ -79,23 +79,24 @@ impl<S: Survey> View<'_, S> {
         })
     }
 
-    // Whether the provider would provide the port to the instance: it is in a state that provides it, and bound.
-    fn does_cover(&self, port: u32, provider: u32, instance: u32) -> bool
-        ensures { result ≡ (now_has (viewed S.situation self.now).universe Provider port ((viewed S.situation self.now).config.inst provider) && (viewed S.situation self.now).config.bound port provider instance) }
+    // Whether the provider of the binding would cover its port: it is in a state that provides it, and bound.
+    fn does_cover(&self, binding: Binding) -> bool
+        ensures { result ≡ (now_has (viewed S.situation self.now).universe Provider binding.port ((viewed S.situation self.now).config.inst binding.provider) && (viewed S.situation self.now).config.bound binding.port binding.provider binding.requirer) }
     {
-        self.has_port(Role::Provider, port, provider)
-            && self.is_bound(Binding {
-                port,
-                provider,
-                requirer: instance,
-            })
+        self.has_port(Role::Provider, binding.port, binding.provider) && self.is_bound(binding)
     }
 
     // Whether some provider would cover the port of the instance.
     fn is_covered(&self, port: u32, instance: u32) -> bool
         ensures { result ≡ covered 256 (viewed S.situation self.now).universe (viewed S.situation self.now).config instance port }
     {
-        (0..256).any(|provider| self.does_cover(port, provider, instance))
+        (0..256).any(|provider| {
+            self.does_cover(Binding {
+                port,
+                provider,
+                requirer: instance,
+            })
+        })
     }
 
     // Whether the instance would have a gap at the port.

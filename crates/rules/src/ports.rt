@@ -36,10 +36,8 @@ fn is_ever_in(universe: &Universe, role: Role, kind: u32, port: u32) -> bool
 pub fn ever_has_port<S: Survey>(survey: &S, role: Role, port: u32, instance: u32) -> bool
     ensures { result ≡ ever_has (S.situation survey.now).universe role port ((S.situation survey.now).config.inst instance) }
 {
-    match survey.at(instance) {
-        Some(pair) => is_ever_in(survey.universe(), role, u32::from(pair.kind), port),
-        None => false,
-    }
+    let universe = survey.universe();
+    survey.at(instance).is_some_and(|pair| is_ever_in(universe, role, u32::from(pair.kind), port))
 }
 
 // How many ports there are.

@@ -31,7 +31,8 @@ impl Row {
         }
     }
 
-    // Its number in the order of the rows, which a search compares at once, and not field by field.
+    // Its number in the order of the rows: by provider, then by requirer, then by port. A derived `Ord` would say the same,
+    // and is no plainer: the definitions tell the order of rows by one number, and so does the code.
     pub fn rank(self) -> u32
         ensures { result ≡ rank_of self }
     {

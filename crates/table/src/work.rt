@@ -58,7 +58,8 @@ impl Records {
         &self.rows[..self.len]
     }
 
-    // Where a row of this rank stands, or would stand.
+    // Where a row of this rank stands, or would stand. Whether it stands there is tested below by place: through `get` and
+    // `is_some_and` the proof did not close.
     fn place_of(&self, rank: u32) -> usize
         ensures { Place self.now.rows self.now.len rank result }
     {

@@ -10,14 +10,6 @@ close_at-requires c =
     c.rank.result c.place_of-place.result c.rank.ensures c.place_of-place.ensures c.requires.standing in
     (at.0, omega (arith, t.fit.most, t.fit.room))
 
-pub overflow_sub-self : goal.overflow_sub-self
-overflow_sub-self c =
-    let t = c.args.self.now in
-    let at =
-    row_at t.slots t.rows t.len t.count t.fit c.args.row (record { provider = omega arith; requirer = omega arith; port = c.requires.in_range })
-    c.rank.result c.place_of-place.result c.rank.ensures c.place_of-place.ensures c.requires.standing in
-    omega (arith, at.0)
-
 pub invariant_of-self : goal.invariant_of-self
 invariant_of-self c =
     let t = c.args.self.now in
