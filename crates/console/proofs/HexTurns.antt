@@ -11,11 +11,6 @@ behind_behind : (xs ys : List ℕ) (o : Option (List ℕ)) → behind xs (behind
 behind_behind xs ys None = refl
 behind_behind xs ys (Some bs) = ap Some (sym (append_assoc xs ys bs))
 
--- before the first pair nothing is read
-pub hex_start : (o : Option (List ℕ)) → behind [] o ≡ o
-hex_start None = refl
-hex_start (Some bs) = refl
-
 module _ (ps : List (List ℕ)) (i : ℕ) (xs : List ℕ) where
   -- the pair at i, and those behind it
   turn : (o : Option ℕ) → i < length ps → pair_of (get_or ps i []) ≡ o → behind xs (pairs_of (drop i ps)) ≡ behind xs (joined_to o (pairs_of (drop (i + 1) ps)))

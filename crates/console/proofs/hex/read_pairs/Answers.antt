@@ -1,10 +1,6 @@
 use Rattle.std.proofs.Common.{vec_items, sym, ◌∙◌, arith}
-use Rattle.console.specs.Hex.{pairs_of}
-use Rattle.console.proofs.HexTurns.{hex_start, hex_more, hex_none, hex_all}
+use Rattle.console.proofs.HexTurns.{hex_more, hex_none, hex_all}
 use Rattle.console.proofs.hex.read_pairs.Goals as goal
-
-pub loop-high-init : goal.loop-high-init
-loop-high-init c = rw c.new-bytes.ensures.items (hex_start (pairs_of c.args.pairs.now))
 
 pub returns-in_default : goal.returns-in_default
 returns-in_default c =
