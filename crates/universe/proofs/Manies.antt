@@ -1,27 +1,24 @@
 -- Items read in a row, one turn of a loop after the other.
-use Rattle.std.proofs.Common.{◌≡◌, ℕ, suc, ◌+◌, ◌-◌, ◌*◌, ◌<◌, ◌≤◌, List, [], ◌∷◌, ◌++◌, length, take, drop, set, replicate, Ok, Err, sym, refl, ap, ◌∙◌, add-one, add-zero, arith, length-set}
-use Rattle.std.proofs.lemmas.List.{append_assoc, append-nil, drop-drop, drop-set-lt, length-drop, length-replicate, length-take-le, take-append-drop, take_more_set}
+use Rattle.std.proofs.Common.{◌≡◌, ℕ, suc, ◌+◌, ◌-◌, ◌*◌, ◌<◌, ◌≤◌, List, [], ◌∷◌, ◌++◌, length, take, drop, set, Ok, Err, sym, refl, ap, ◌∙◌, add-one, add-zero, arith, length-set}
+use Rattle.std.proofs.lemmas.List.{append_assoc, append-nil, drop-drop, length-drop, take_all, take_more_set}
 use Rattle.universe.specs.declared.refusal.UniverseRefusal.{UniverseRefusal}
 use Rattle.universe.specs.declared.tables.State.{State}
-use Rattle.universe.specs.Reading.{Read, and_then, filled, many, state_size, total}
+use Rattle.universe.specs.Reading.{Read, and_then, many, state_size, total}
 
--- what a loop reads: so many items into places that hold a blank, from a place in the bytes on, as a part of a reading
+-- what a loop reads: so many items, from a place in the bytes on, as a part of a reading
 pub record Row (X Z : Type 0) : Type 0 where
   pub one : ℕ → List ℕ → Read X
   pub size : X → ℕ
-  pub places : ℕ
-  pub blank : X
   pub count : ℕ
   pub bytes : List ℕ
   pub start : ℕ
   pub finish : List X → Read Z
   pub whole : Read Z
 
--- the reading is what was filled in so far, and the reading of what is left
+-- the first q of the items are read, and the reading is what they and the bytes behind them give
 pub record SoFar {X Z : Type 0} (r : Row X Z) (q : ℕ) (xs : List X) (rest : List ℕ) : Type 0 where
   pub value : r.whole ≡ and_then (many r.one r.size q (r.count - q) rest) (λ ys. r.finish (take q xs ++ ys))
-  pub len : length xs ≡ r.places
-  pub unfilled : drop q xs ≡ replicate (r.places - q) r.blank
+  pub len : length xs ≡ r.count
   pub behind : rest ≡ drop (r.start + total r.size (take q xs)) r.bytes
   pub long : r.start + total r.size (take q xs) ≤ length r.bytes
 
@@ -64,45 +61,38 @@ unfolding many
 many_done one size q n bs whole F e w = rw e at w
 
 module _ {X Z : Type 0} (r : Row X Z) where
-  pub row_begins : (rest : List ℕ) → r.whole ≡ and_then (many r.one r.size 0 r.count rest) r.finish → r.start ≤ length r.bytes → rest ≡ drop r.start r.bytes
-      → SoFar r 0 (replicate r.places r.blank) rest
+  pub row_begins : (xs : List X) (rest : List ℕ) → length xs ≡ r.count → r.whole ≡ and_then (many r.one r.size 0 r.count rest) r.finish → r.start ≤ length r.bytes → rest ≡ drop r.start r.bytes
+      → SoFar r 0 xs rest
   unfolding total
-  row_begins rest w l b = record {
+  row_begins xs rest e w l b = record {
     value = let e : r.count ≡ r.count - 0 = omega arith in w ∙ ap (λ n. and_then (many r.one r.size 0 n rest) r.finish) e;
-    len = length-replicate r.places r.blank;
-    unfilled = let e : r.places ≡ r.places - 0 = omega arith in ap (λ n. replicate n r.blank) e;
+    len = e;
     behind = b ∙ ap (λ i. drop i r.bytes) (sym (add-zero r.start));
     long = omega arith;
   }
 
-  module _ (q : ℕ) (xs : List X) (rest : List ℕ) (few : r.count ≤ r.places) (lt : q < r.count) (so : SoFar r q xs rest) where
+  module _ (q : ℕ) (xs : List X) (rest : List ℕ) (lt : q < r.count) (so : SoFar r q xs rest) where
     left : r.count - q ≡ suc (r.count - (q + 1))
     left = omega arith
 
     pub row_stops : (e : UniverseRefusal) → r.one q rest ≡ Err e → r.whole ≡ Err e
     row_stops e h = many_refused r.one r.size q (r.count - q) (r.count - (q + 1)) rest e _ _ left so.value h
 
-    pub row_more : (x : X) (behind : List ℕ) (i : ℕ) → i ≡ q → r.one q rest ≡ Ok x → r.size x ≤ length rest → behind ≡ drop (r.size x) rest → SoFar r (q + 1) (set xs i x) behind
-    row_more x behind i at h l b =
+    pub row_more : (x : X) (behind : List ℕ) → r.one q rest ≡ Ok x → r.size x ≤ length rest → behind ≡ drop (r.size x) rest → SoFar r (q + 1) (set xs q x) behind
+    row_more x behind h l b =
         let v = many_more r.one r.size q (r.count - q) (r.count - (q + 1)) rest x _ _ left so.value h in
         let front : take (q + 1) (set xs q x) ≡ take q xs ++ (x ∷ []) = take_more_set xs q x (omega (arith, so.len)) in
         let size : r.start + total r.size (take q xs) + r.size x ≡ r.start + total r.size (take q xs ++ (x ∷ [])) = omega (arith, total_push r.size (take q xs) x) in
-        let m : r.places - q ≡ suc (r.places - (q + 1)) = omega arith in
-        rw at (record {
+        record {
           value = rw (front, b) (v ∙ then_same _ _ _ (λ ys. ap r.finish (sym (append_assoc (take q xs) (x ∷ []) ys))));
           len = length-set xs q x ∙ so.len;
-          unfilled = drop-set-lt (q + 1) xs q x (omega arith) ∙ (sym (drop-drop 1 q xs) ∙ (ap (drop 1) (so.unfilled ∙ ap (λ k. replicate k r.blank) m)));
           behind = rw (front, ← size) (b ∙ (ap (drop (r.size x)) so.behind ∙ drop-drop (r.size x) (r.start + total r.size (take q xs)) r.bytes));
           long = rw (front, ← size) (let k = (rw (so.behind, length-drop (r.start + total r.size (take q xs)) r.bytes) at l) in omega (arith, so.long));
-        })
+        }
 
-  -- no item is left, and the places behind those that were filled in are blank
-  pub row_done : (q : ℕ) (xs : List X) (rest : List ℕ) → r.count ≤ r.places → r.count ≤ q → q ≤ r.count → SoFar r q xs rest
-      → (r.whole ≡ r.finish (take q xs)) × (filled r.places r.blank (take q xs) ≡ xs) × (length (take q xs) ≡ r.count)
-  row_done q xs rest few g l so =
+  -- no item is left
+  pub row_done : (q : ℕ) (xs : List X) (rest : List ℕ) → r.count ≤ q → SoFar r q xs rest → (r.whole ≡ r.finish xs) × (take q xs ≡ xs)
+  row_done q xs rest g so =
       let z : r.count - q ≡ 0 = omega arith in
-      let e : length (take q xs) ≡ q = length-take-le q xs (omega (arith, so.len)) in (
-        many_done r.one r.size q (r.count - q) rest _ _ z so.value ∙ ap r.finish (append-nil (take q xs)),
-        rw (e, ← so.unfilled) (take-append-drop q xs),
-        omega arith,
-      )
+      let e : take q xs ≡ xs = take_all q xs (omega (arith, so.len)) in
+      (many_done r.one r.size q (r.count - q) rest _ _ z so.value ∙ ap r.finish (append-nil (take q xs) ∙ e), e)

@@ -9,32 +9,28 @@ use crate::refusal::UniverseRefusal;
 use crate::tables::{Kind, Tables};
 
 // The type at the front of the bytes, and the bytes behind it.
-#[tactic(auto, using(crate::proofs::Turns::kind_refused, crate::proofs::Turns::kind_stops, crate::proofs::Turns::kind_done))]
+#[tactic(auto, using(crate::proofs::Turns::kind_refused, crate::proofs::Turns::kind_stops))]
 fn read_kind(ports: u8, bytes: &[u8]) -> Result<(Kind, &[u8]), UniverseRefusal>
     ensures { Splits kind_size result (kind_read ports bytes.now) bytes.now }
 {
     let (count, mut rest) = read_count(bytes)?;
     let mut states = [BLANK_STATE; 8];
-    // By number, as the types below: no proof knows what is written through `iter_mut`.
-    for q in 0..count {
-        let (state, behind) = read_state(ports, count, q, rest)?;
-        states[usize::from(q)] = state;
-        rest = behind;
+    for (number, state) in states[..usize::from(count)].iter_mut().enumerate() {
+        // `as` loses nothing: the array has eight places.
+        (*state, rest) = read_state(ports, count, number as u8, rest)?;
     }
     Ok((Kind { count, states }, rest))
 }
 
 // The tables that the whole file packs.
-#[tactic(auto, using(crate::proofs::Turns::tables_refused, crate::proofs::Turns::tables_cut, crate::proofs::Turns::tables_done))]
+#[tactic(auto, using(crate::proofs::Turns::tables_refused, crate::proofs::Turns::tables_stop, crate::proofs::Turns::tables_cut, crate::proofs::Turns::tables_done))]
 fn read_tables(bytes: &[u8]) -> Result<Tables, UniverseRefusal>
     ensures { result ≡ tables_read bytes.now }
 {
     let (header, mut rest) = read_header(bytes)?;
     let mut kinds = [UNUSED_KIND; 16];
-    for t in 0..header.types {
-        let (kind, behind) = read_kind(header.ports, rest)?;
-        kinds[usize::from(t)] = kind;
-        rest = behind;
+    for kind in kinds[..usize::from(header.types)].iter_mut() {
+        (*kind, rest) = read_kind(header.ports, rest)?;
     }
     if !rest.is_empty() {
         return Err(UniverseRefusal::Length);

@@ -1,6 +1,6 @@
 // Sets of numbers packed in a field: number 0 is the field's highest bit.
 ghost use Rattle.std.specs.Prelude.{◌≡◌, ℕ, ◌≤◌};
-ghost use Rattle.std.proofs.Common.{arith};
+ghost use Rattle.std.proofs.Common.{lit≤};
 ghost use Rattle.universe.specs.Sets.{has, has_from};
 
 // A field of up to 32 bits that packs a set.
@@ -40,7 +40,7 @@ impl Field for u32 {
 
     const WIDTH: u32 = u32::BITS;
 
-    ghost narrow = { Prim.omega arith };
+    ghost narrow = { lit≤ tt };
 
     fn bits(self) -> u32 {
         self
@@ -54,7 +54,7 @@ impl Field for u8 {
 
     const WIDTH: u32 = u8::BITS;
 
-    ghost narrow = { Prim.omega arith };
+    ghost narrow = { lit≤ tt };
 
     fn bits(self) -> u32 {
         u32::from(self)
