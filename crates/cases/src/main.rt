@@ -13,11 +13,8 @@ use scripts::{
 
 // Prints a report, and says so where its text tells otherwise than its outcome.
 fn print_report(rt: &HostRuntime, report: Result<String, Failure<String>>) -> anyhow::Result<()> {
-    let (text, refused) = match report {
-        Ok(text) => (text, false),
-        Err(Failure::Refused(text)) => (text, true),
-        Err(Failure::Memory(error)) => return Err(error.into()),
-    };
+    let refused = report.is_err();
+    let text = report.or_else(Failure::into_refusal)?;
     rt.print(text.as_str())?;
     if refused != text.as_str().contains("refused") {
         println!(rt; "the report says otherwise")?;
@@ -34,8 +31,10 @@ fn show_universe(rt: &HostRuntime, bytes: &[u8]) -> anyhow::Result<()> {
 fn show_script(rt: &HostRuntime, bytes: &[u8]) -> anyhow::Result<()> {
     match script_lines(rt.alloc(), bytes) {
         Ok(lines) => print_report(rt, lines_report(rt.alloc(), &lines)),
-        Err(Failure::Refused(CutShort)) => Ok(println!(rt; "no whole lines")?),
-        Err(Failure::Memory(error)) => Err(error.into()),
+        Err(failure) => {
+            let CutShort = failure.into_refusal()?;
+            Ok(println!(rt; "no whole lines")?)
+        }
     }
 }
 
@@ -44,20 +43,20 @@ fn show_orders(rt: &HostRuntime, text: &[u8]) -> anyhow::Result<()> {
     let alloc = rt.alloc();
     let orders = match parse_orders(alloc, text) {
         Ok(orders) => orders,
-        Err(Failure::Refused(NoOrder { line })) => {
+        Err(failure) => {
+            let NoOrder { line } = failure.into_refusal()?;
             return Ok(println!(rt; "line {line} writes no order")?);
         }
-        Err(Failure::Memory(error)) => return Err(error.into()),
     };
     match pack_orders(alloc, &orders) {
         Ok(bytes) => {
             rt.print(pack_text(alloc, orders.len())?)?;
             show_script(rt, &bytes)
         }
-        Err(Failure::Refused(PackFault { refusal, place })) => {
+        Err(failure) => {
+            let PackFault { refusal, place } = failure.into_refusal()?;
             Ok(rt.print(refusal_text(alloc, refusal.number(), place)?)?)
         }
-        Err(Failure::Memory(error)) => Err(error.into()),
     }
 }
 

@@ -10,9 +10,9 @@ IfTold (Ok x) P Q = P x
 IfTold (Err (Refused e)) P Q = Q e
 IfTold (Err (Memory e)) P Q = ⊤
 
--- the value or the refusal, each seen by its view, is what r says
+-- what is shown of the value, or of the refusal, is what r says
 abbrev pub Told : {T E X Y : Type 0} → (T → X) → (E → Y) → Result T (Failure E) → Result X Y → Type 0
-Told view sight result r = IfTold result (λ x. Ok (view x) ≡ r) (λ e. Err (sight e) ≡ r)
+Told shown_value shown_refusal result r = IfTold result (λ x. Ok (shown_value x) ≡ r) (λ e. Err (shown_refusal e) ≡ r)
 
 -- P of the refusal, if there is one
 abbrev pub ForRefused : {E : Type 0} → Failure E → (E → Type 0) → Type 0

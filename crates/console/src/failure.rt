@@ -1,7 +1,7 @@
 // Why a call gives no value: it is refused, or memory has run out.
-ghost use Rattle.std.specs.Prelude.{◌≡◌, alloc_error};
+ghost use Rattle.std.specs.Prelude.{◌≡◌, alloc_error, MatchResult};
 ghost use Rattle.console.specs.Told.{ForRefused, IsMapped};
-ghost use Rattle.console.specs.declared.failure.Failure.TheVariants.{Memory};
+ghost use Rattle.console.specs.declared.failure.Failure.TheVariants.{Refused, Memory};
 
 use std::alloc::{AllocError, AllocFailed};
 
@@ -20,6 +20,16 @@ impl<E> Failure<E> {
         match self {
             Failure::Refused(refusal) => Failure::Refused(f(refusal)),
             Failure::Memory(error) => Failure::Memory(error),
+        }
+    }
+
+    // The refusal; where memory has run out, that error.
+    pub fn into_refusal(self) -> Result<E, AllocError>
+        ensures { MatchResult result (λ e. self ≡ Refused e) (λ a. self ≡ Memory a) }
+    {
+        match self {
+            Failure::Refused(refusal) => Ok(refusal),
+            Failure::Memory(error) => Err(error),
         }
     }
 }

@@ -1,5 +1,5 @@
 -- The turns of the loop over the lines of a script.
-use Rattle.std.proofs.Common.{◌≡◌, ℕ, suc, ◌+◌, ◌<◌, ◌≤◌, cond, ◌||◌, List, [], ◌++◌, length, get_or, drop, is_err, Ok, Err, Result, sym, ap, ◌∙◌, add-one}
+use Rattle.std.proofs.Common.{◌≡◌, ℕ, suc, ◌+◌, ◌<◌, ◌≤◌, cond, ◌||◌, List, [], ◌++◌, true, false, length, get_or, drop, is_err, Ok, Err, Result, sym, ap, ◌∙◌, add-one}
 use Rattle.std.proofs.lemmas.List.{at_drop_more, at_drop_all, append-nil, append_assoc}
 use Rattle.model.specs.declared.order.Order.{Order}
 use Rattle.lines.specs.declared.refusal.LineRefusal.{LineRefusal}
@@ -32,23 +32,22 @@ module _ (before xs : List ℕ) (i : ℕ) (all : Result (List ℕ) (List ℕ)) (
       ∙ ap (λ k. report (is_err o || lines_refused (drop (i + 1) xs)) (before ++ (line_text i o ++ cond (is_err o) [] (lines_text k (drop (i + 1) xs))))) (sym (add-one i)))
       ∙ so_far
 
-  -- a line that tells an order is printed, and the rest follows
-  pub report_more : (o : Result Order LineRefusal) (row text : List ℕ) → Ok row ≡ report (is_err o) (line_text i o) → text ≡ before ++ row → o ≡ decoded (get_or xs i 0) → i < length xs
-      → report_on text (i + 1) (drop (i + 1) xs) ≡ all
-  unfolding report_on
-  report_more (Ok o) row text told pushed e h =
-      let said : row ≡ line_text i (Ok o) = cc in
-      ap (λ t. report_on t (i + 1) (drop (i + 1) xs)) (pushed ∙ ap (λ r. before ++ r) said)
-      ∙ ap (report (lines_refused (drop (i + 1) xs))) (append_assoc before (line_text i (Ok o)) (lines_text (i + 1) (drop (i + 1) xs)))
-      ∙ report_step (Ok o) h e
-  report_more (Err r) row text told pushed e h = cc
+  -- what is printed of the line goes behind what was printed before it
+  module _ (o : Result Order LineRefusal) (row text : List ℕ) (told : row ≡ line_text i o) (pushed : text ≡ before ++ row) (e : o ≡ decoded (get_or xs i 0)) (h : i < length xs) where
+    said : text ≡ before ++ line_text i o
+    said = pushed ∙ ap (λ r. before ++ r) told
 
-  -- a refused line is the last
-  pub report_last : (o : Result Order LineRefusal) (row text : List ℕ) → Err row ≡ report (is_err o) (line_text i o) → text ≡ before ++ row → o ≡ decoded (get_or xs i 0) → i < length xs → Err text ≡ all
-  report_last (Ok o) row text told pushed e h = cc
-  report_last (Err r) row text told pushed e h =
-      let said : row ≡ line_text i (Err r) = cc in
-      ap Err (pushed ∙ ap (λ r. before ++ r) (said ∙ sym (append-nil (line_text i (Err r))))) ∙ report_step (Err r) h e
+    -- a line that tells an order, and the rest follows
+    pub report_more : is_err o ≡ false → report_on text (i + 1) (drop (i + 1) xs) ≡ all
+    unfolding report_on
+    report_more good =
+        ap (λ t. report_on t (i + 1) (drop (i + 1) xs)) said
+        ∙ ap (report (lines_refused (drop (i + 1) xs))) (append_assoc before (line_text i o) (lines_text (i + 1) (drop (i + 1) xs)))
+        ∙ (let step = report_step o h e in rw good at step)
+
+    -- a refused line is the last
+    pub report_last : is_err o ≡ true → Err text ≡ all
+    report_last bad = ap Err (said ∙ ap (λ r. before ++ r) (sym (append-nil (line_text i o)))) ∙ (let step = report_step o h e in rw bad at step)
 
   -- behind the last line nothing is printed
   pub report_end : length xs ≤ i → Ok before ≡ all

@@ -1,10 +1,10 @@
 // Scripts as files and texts: what the commands `lines` and `pack` read, print and write.
 #![tactic(auto)]
 
-ghost use Rattle.std.specs.Prelude.{◌≡◌, ◌+◌, ◌^◌, ◌<◌, map, is_err, ok_or, option_to_list, IfOk, MatchResult, vec_items, string_bytes};
+ghost use Rattle.std.specs.Prelude.{◌≡◌, ◌+◌, ◌^◌, ◌<◌, map, is_err, ok_or, option_to_list, IfOk, MatchResult, vec_items, string_bytes, [], Ok};
 ghost use Rattle.console.specs.Told.{Told, report};
 ghost use Rattle.scripts.specs.Scripts.{pack_text_of, refusal_text_of, line_text, lines_text, lines_refused};
-ghost use Rattle.scripts.specs.Scripts.{word_of, script_lines_of, line_bytes_of, packed, passed, line_orders, orders_of};
+ghost use Rattle.scripts.specs.Scripts.{word_of, script_lines_of, line_of, packed, packed_line, passed, line_orders, orders_of};
 
 use console::failure::Failure;
 use lines::refusal::LineRefusal;
@@ -44,36 +44,31 @@ pub fn refusal_text(alloc: Global, number: u8, place: usize) -> Result<String, A
     format!(in alloc; "refused {number} at {place}\n")
 }
 
-// What is printed of one line, which is the last where it is refused.
+// What is printed of one line.
 fn line_report(
     alloc: Global,
     place: usize,
     order: Result<Order, LineRefusal>,
-) -> Result<String, Failure<String>>
-    ensures { Told string_bytes string_bytes result (report (is_err order) (line_text place order)) }
+) -> Result<String, AllocError>
+    ensures { IfOk result (λ s. string_bytes s ≡ line_text place order) }
 {
     match order {
-        Ok(order) => Ok(format!(in alloc; "{order}\n")?),
-        Err(refusal) => {
-            let told = refusal_text(alloc, refusal.number(), place)?;
-            Err(Failure::Refused(told))
-        }
+        Ok(order) => format!(in alloc; "{order}\n"),
+        Err(refusal) => refusal_text(alloc, refusal.number(), place),
     }
 }
 
 // What is printed of the lines, up to the first that is refused.
+#[tactic(auto, using(crate::proofs::ScriptTurns::report_end))]
 pub fn lines_report(alloc: Global, lines: &[u32]) -> Result<String, Failure<String>>
     ensures { Told string_bytes string_bytes result (report (lines_refused lines.now) (lines_text 0 lines.now)) }
 {
     let mut text = String::new(alloc);
     for (place, line) in lines.iter().enumerate() {
-        match line_report(alloc, place, decode(*line)) {
-            Ok(row) => text.push_str(&row)?,
-            Err(Failure::Refused(row)) => {
-                text.push_str(&row)?;
-                return Err(Failure::Refused(text));
-            }
-            Err(Failure::Memory(error)) => return Err(Failure::Memory(error)),
+        let order = decode(*line);
+        text.push_str(&line_report(alloc, place, order)?)?;
+        if order.is_err() {
+            return Err(Failure::Refused(text));
         }
     }
     Ok(text)
@@ -99,16 +94,27 @@ pub fn script_lines(alloc: Global, bytes: &[u8]) -> Result<Vec<u32>, Failure<Cut
     Ok(read_words(alloc, words)?)
 }
 
+// The bytes of the line of an order, which stands at a place.
+#[tactic(auto, unfolding(crate::specs::Scripts::line_of))]
+fn pack_order(place: usize, order: Order) -> Result<[u8; 4], PackFault>
+    ensures { result ≡ packed_line place (line_of order) (Ok []) }
+{
+    match encode(order) {
+        Ok(line) => Ok(line.to_be_bytes()),
+        Err(refusal) => Err(PackFault { refusal, place }),
+    }
+}
+
 // The packed script of the orders, or the first order that has no line.
-#[tactic(auto, using(crate::proofs::PackTurns::packed_end))]
+#[tactic(auto, using(crate::proofs::PackTurns::packed_more, crate::proofs::PackTurns::packed_end))]
 pub fn pack_orders(alloc: Global, orders: &[Order]) -> Result<Vec<u8>, Failure<PackFault>>
     ensures { Told vec_items (λ e. e) result (packed 0 orders.now) }
 {
     let mut bytes = Vec::new(alloc);
     for (place, order) in orders.iter().enumerate() {
-        match encode(*order) {
-            Ok(line) => bytes.extend_from_slice(&line.to_be_bytes())?,
-            Err(refusal) => return Err(Failure::Refused(PackFault { refusal, place })),
+        match pack_order(place, *order) {
+            Ok(line) => bytes.extend_from_slice(&line)?,
+            Err(fault) => return Err(Failure::Refused(fault)),
         }
     }
     Ok(bytes)

@@ -8,7 +8,8 @@ use model::order::Order;
 use options::{Fault, Flag, Reason, parse_options, plain_place};
 use piles::host_command_report;
 use scripts::{
-    NoOrder, lines_report, pack_orders, pack_text, parse_orders, refusal_text, script_lines,
+    NoOrder, PackFault, lines_report, pack_orders, pack_text, parse_orders, refusal_text,
+    script_lines,
 };
 use std::alloc::AllocError;
 use std::process::ExitCode;
@@ -50,7 +51,7 @@ enum Misuse<'a> {
     NoOrder { line: usize, path: &'a str },
     Option { word: &'a str, reason: Reason },
     // An example of the program's own cannot be used.
-    Example(&'static str),
+    Example(&'a str),
 }
 
 impl fmt::Display for Misuse<'_> {
@@ -93,6 +94,12 @@ impl<'a> From<Misuse<'a>> for Stop<'a> {
     }
 }
 
+impl From<String> for Stop<'_> {
+    fn from(refusal: String) -> Self {
+        Stop::Refused(refusal)
+    }
+}
+
 impl From<AllocError> for Stop<'_> {
     fn from(error: AllocError) -> Self {
         Stop::Failed(error.into())
@@ -105,20 +112,11 @@ impl From<io::Error> for Stop<'_> {
     }
 }
 
-impl From<Failure<String>> for Stop<'_> {
-    fn from(failure: Failure<String>) -> Self {
-        match failure {
-            Failure::Refused(text) => Stop::Refused(text),
-            Failure::Memory(error) => Stop::from(error),
-        }
-    }
-}
-
-impl<'a> From<Failure<Misuse<'a>>> for Stop<'a> {
-    fn from(failure: Failure<Misuse<'a>>) -> Stop<'a> {
-        match failure {
-            Failure::Refused(misuse) => Stop::Misused(misuse),
-            Failure::Memory(error) => Stop::from(error),
+impl<'a, E: Into<Stop<'a>>> From<Failure<E>> for Stop<'a> {
+    fn from(failure: Failure<E>) -> Stop<'a> {
+        match failure.into_refusal() {
+            Ok(refusal) => refusal.into(),
+            Err(error) => error.into(),
         }
     }
 }
@@ -156,11 +154,11 @@ fn pack<'a>(rt: &HostRuntime, orders: &'a str, path: &'a str) -> Result<(), Stop
     let orders = read_orders(rt, orders)?;
     let bytes = match pack_orders(alloc, &orders) {
         Ok(bytes) => bytes,
-        Err(Failure::Refused(fault)) => {
-            let text = refusal_text(alloc, fault.refusal.number(), fault.place)?;
+        Err(failure) => {
+            let PackFault { refusal, place } = failure.into_refusal()?;
+            let text = refusal_text(alloc, refusal.number(), place)?;
             return Err(Stop::Refused(text));
         }
-        Err(Failure::Memory(error)) => return Err(Stop::from(error)),
     };
     fs::write(rt, path, bytes.as_slice()).map_err(|_| Misuse::Unwritable(path))?;
     Ok(rt.print(pack_text(alloc, orders.len())?)?)
