@@ -77,8 +77,7 @@ impl<B: Host> Verifying<B> {
         if does_stop(&self.below, order) {
             return Err(self.gap_refusal());
         }
-        give(&mut self.below, order)?;
-        Ok(())
+        give(&mut self.below, order)
     }
 
     // Takes an order: what is relayed is what a host answers.
