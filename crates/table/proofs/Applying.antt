@@ -15,7 +15,7 @@ use Rattle.hosts.specs.Survey.{Lawful}
 use Rattle.hosts.specs.Offences.{offence, refused_if}
 use Rattle.hosts.specs.Answers.{illegal_or, full_test}
 use Rattle.hosts.proofs.Offending.{bind_range, change_range, lawful_after, none_if, offence_none, unbind_range}
-use Rattle.table.specs.declared.rows.Row.{Row}
+use Rattle.table.specs.declared.row.Row.{Row}
 use Rattle.table.specs.declared.limits.Limits.{Limits}
 use Rattle.table.specs.Rows.{joins, row}
 use Rattle.table.specs.Fit.{Ranged, config}

@@ -1,18 +1,18 @@
 -- The work of the five orders on the records: what stands afterwards, and that the records fit. Assumes nothing.
 use Rattle.std.proofs.Common.{◌≡◌, ℕ, ◌+◌, ◌-◌, ◌<◌, ◌≤◌, true, false, not, ◌&&◌, List, length, get_or, set, replicate, Some, None, Option, sym, refl, ap, ◌∙◌, subst, arith, length-set}
 use mathlib.Core.Path.{fun_ext}
+use Rattle.model.specs.declared.binding.Binding.{Binding}
 use Rattle.model.specs.declared.pair.Pair.{Pair}
 use Rattle.model.specs.declared.order.Order.{Order}
 use Rattle.model.specs.declared.order.Order.TheVariants.{Create, Bind, Change, Unbind, Delete}
-use Rattle.model.specs.Config.{Config, empty, moved, pair, stands}
-use Rattle.model.specs.Orders.{put, result_of}
+use Rattle.model.specs.Config.{Config, moved, pair, stands}
+use Rattle.model.specs.Orders.{put, result_of, same}
 use Rattle.model.specs.Counts.{instances, bindings}
 use Rattle.model.proofs.Results.{bind_inst, unbind_inst}
-use Rattle.model.proofs.Searches.{any_none}
 use Rattle.model.proofs.Counting.{change_counts, create_counts, delete_counts, instances_most, instances_none, instances_same}
 use Rattle.std.proofs.lemmas.Bool.{both_ways}
-use Rattle.table.specs.declared.rows.Row.{Row}
-use Rattle.table.specs.Rows.{binding_of, rank, row, joins, held, Sound, Ordered, Place, Opened, Closed, Kept}
+use Rattle.table.specs.declared.row.Row.{Row}
+use Rattle.table.specs.Rows.{binding_of, rank, row, joins, held, Ordered, Place, Opened, Closed, Kept}
 use Rattle.table.specs.Fit.{Fit, config, standing}
 use Rattle.table.proofs.RowSearch.{held_tells, row_count, stands_at}
 use Rattle.table.proofs.RowMoves.{held_more, ordered_more, held_less, ordered_less, held_kept}
@@ -87,7 +87,7 @@ module _ (slots : List (Option Pair)) (rows : List Row) (len count : ℕ) (fit :
             (omega (arith, fit.counted, delete_counts 256 c z low was))
 
   -- a row, and its place
-  module _ (b : Row) (s : Sound b) (k r : ℕ) (is : k ≡ rank b) (at : Place rows len k r) where
+  module _ (b : Row) (k r : ℕ) (is : k ≡ rank b) (at : Place rows len k r) where
     module _ (ys : List Row) (size : length ys ≡ length rows) (opened : Opened rows ys r len) (room : len < 2048) (out : c.bound b.port b.provider b.requirer ≡ false) where
       place : Place rows len (rank b) r
       place = subst (λ n. Place rows len n r) is at
@@ -99,18 +99,18 @@ module _ (slots : List (Option Pair)) (rows : List Row) (len count : ℕ) (fit :
       pub bound_fit : Fit slots (set ys r b) (len + 1) count
       bound_fit =
           finish (Bind (binding_of b)) slots _ (len + 1) count bound refl (length-set _ _ _ ∙ size) (omega arith)
-          (ordered_more rows ys len fit.ordered b r place opened (omega (arith, fit.room)) s
+          (ordered_more rows ys len fit.ordered b r place opened (omega (arith, fit.room))
           (λ a. both_ways _ out ((held_tells rows len b.port b.provider b.requirer).1 a)))
           (fit.counted ∙ sym (instances_same 256 c (result_of (Bind (binding_of b)) c) (λ z. ap stands (bind_inst c (binding_of b) z))))
 
     module _ (was : c.bound b.port b.provider b.requirer ≡ true) where
-      pub row_at : (r < len) × (row rows r ≡ b)
-      row_at = stands_at rows len fit.ordered b s k r is at ((held_tells rows len b.port b.provider b.requirer).0 was)
+      pub row_at : (r < len) × (binding_of (row rows r) ≡ binding_of b)
+      row_at = stands_at rows len fit.ordered b k r is at ((held_tells rows len b.port b.provider b.requirer).0 was)
 
       module _ (ys : List Row) (size : length ys ≡ length rows) (closed : Closed rows ys r len) where
         row_out : (p' x' y' : ℕ) → held ys (len - 1) p' x' y' ≡ (held rows len p' x' y' && not (joins b p' x' y'))
         row_out p' x' y' =
-            held_less rows ys len fit.ordered r closed p' x' y' ∙ ap (λ d. held rows len p' x' y' && not (joins d p' x' y')) row_at.1
+            held_less rows ys len fit.ordered r closed p' x' y' ∙ ap (λ (j : Binding). held rows len p' x' y' && not (same j.port j.provider j.requirer p' x' y')) row_at.1
 
         pub unbound : config slots ys (len - 1) ≡ result_of (Unbind (binding_of b)) c
         unfolding result_of
@@ -129,9 +129,6 @@ new_fit rows size =
       sized = refl;
       room = size;
       most = omega arith;
-      ordered = record { rising = λ i j a l. absurd (omega arith); sound = λ i l. absurd (omega arith) };
+      ordered = λ i j a l. absurd (omega arith);
       counted = sym (instances_none 256 (config (replicate 256 None) rows 0) all_vacant);
     }
-
-pub new_config : (rows : List Row) → config (replicate 256 None) rows 0 ≡ empty
-new_config rows = alike _ _ all_vacant (λ p x y. any_none _)

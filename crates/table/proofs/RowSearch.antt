@@ -1,43 +1,59 @@
 -- What ordered rows hold, and what a search among them tells. Assumes nothing.
-use Rattle.std.proofs.Common.{◌≡◌, ℕ, zero, suc, ◌*◌, ◌<◌, ◌≤◌, Bool, true, false, ◌&&◌, ◌||◌, eqb, ltb, List, Decides, Option, sym, refl, ap, ◌∙◌, inl, inr, arith}
+use Rattle.std.proofs.Common.{◌≡◌, ℕ, zero, suc, ◌+◌, ◌*◌, ◌<◌, ◌≤◌, Bool, true, false, ◌&&◌, ◌||◌, eqb, ltb, List, length, get_or, Decides, Option, sym, refl, ap, ◌∙◌, subst, inl, inr, arith}
 use mathlib.Core.Bool.{or-false}
 use Rattle.std.proofs.lemmas.Bool.{and_from, and_parts, cases_order, eq-eqb, eqb-true, lt-ltb, ltb-true, or_right}
 use Rattle.std.proofs.lemmas.Bool.Decides.{same_from_decides}
+use Rattle.std.proofs.lemmas.List.{get_or_default}
+use Rattle.model.specs.declared.binding.Binding.{Binding}
 use Rattle.model.specs.declared.pair.Pair.{Pair}
 use Rattle.model.specs.Search.{any}
 use Rattle.model.specs.Config.{Config}
 use Rattle.model.specs.Counts.{bindings}
+use Rattle.model.specs.Orders.{same}
 use Rattle.model.proofs.Results.{Same, same_self, same_true, same_false}
 use Rattle.model.proofs.Searches.{any_found, any_some, any_none, refuted}
 use Rattle.model.proofs.Counting.{bindings_more, bindings_none}
 use Rattle.hosts.specs.Offences.{provider_test}
-use Rattle.table.specs.declared.rows.Row.{Row}
-use Rattle.table.specs.Rows.{row_of, row, rank, joins, held, Among, Sound, Ordered, Place}
+use Rattle.table.specs.declared.row.Row.{Row}
+use Rattle.table.specs.Rows.{binding_of, blank, row, rank, joins, held, Among, Ordered, Place}
 
-pub joins_tells : (b : Row) (p x y : ℕ) → Decides (joins b p x y) (b ≡ row_of p x y)
-joins_tells b p x y = (λ e. is (same_true b.port b.provider b.requirer p x y e), λ e. rw e (same_self p x y))
+-- the binding on the port p from x to y
+abbrev pub binding : ℕ → ℕ → ℕ → Binding
+binding p x y = record { port = p; provider = x; requirer = y }
+
+-- a row that was read
+pub read : (xs : List Row) (i : ℕ) (b : Row) → i < length xs → b ≡ get_or xs i b → b ≡ row xs i
+read xs i b l e = e ∙ get_or_default xs i b blank l
+
+pub joins_tells : (b : Row) (p x y : ℕ) → Decides (joins b p x y) (binding_of b ≡ binding p x y)
+joins_tells b p x y =
+    (λ e. is (same_true b.port b.provider b.requirer p x y e), λ e. ap (λ (j : Binding). same j.port j.provider j.requirer p x y) e ∙ same_self p x y)
   where
-    is : Same b.port b.provider b.requirer p x y → b ≡ row_of p x y
+    is : Same b.port b.provider b.requirer p x y → binding_of b ≡ binding p x y
     is e = λ i. record { provider = sym e.1 i; requirer = sym e.2 i; port = sym e.0 i }
 
-pub held_tells : (xs : List Row) (n p x y : ℕ) → Decides (held xs n p x y) (Among xs n (row_of p x y))
+pub held_tells : (xs : List Row) (n p x y : ℕ) → Decides (held xs n p x y) (Among xs n (binding p x y))
 held_tells xs n p x y = (
   (λ e. let f = any_some (λ i. joins (row xs i) p x y) n e in (f.0, f.1, (joins_tells (row xs f.0) p x y).0 f.2)),
   (λ a. any_found (λ i. joins (row xs i) p x y) a.0 n a.1 ((joins_tells (row xs a.0) p x y).1 a.2)),
 )
 
--- bindings of one rank are one
-pub rank_one : (b d : Row) → Sound b → Sound d → rank b ≡ rank d → b ≡ d
-rank_one b d s t e = λ i. record { provider = provider i; requirer = requirer i; port = port i }
+-- rows of one binding have one rank
+pub one_rank : (b d : Row) → binding_of b ≡ binding_of d → rank b ≡ rank d
+one_rank b d e = ap (λ (j : Binding). j.provider * 8192 + j.requirer * 32 + j.port) e
+
+-- rows of one rank have one binding
+pub rank_one : (b d : Row) → rank b ≡ rank d → binding_of b ≡ binding_of d
+rank_one b d e = λ i. record { provider = provider i; requirer = requirer i; port = port i }
   where
     provider : b.provider ≡ d.provider
-    provider = omega arith
+    provider = omega (arith, b.in_range, d.in_range)
 
     requirer : b.requirer ≡ d.requirer
-    requirer = omega arith
+    requirer = omega (arith, b.in_range, d.in_range)
 
     port : b.port ≡ d.port
-    port = omega arith
+    port = omega (arith, b.in_range, d.in_range)
 
 -- a configuration whose bindings are the rows
 abbrev pub holding : (ℕ → Option Pair) → List Row → ℕ → Config
@@ -50,20 +66,20 @@ module _ (xs : List Row) (n : ℕ) (o : Ordered xs n) where
       elim (cases_order i j) [
         | inl same ↦ same
         | inr apart ↦ elim apart [
-          | inl lt ↦ let r = o.rising i j lt lj in absurd (omega arith)
-          | inr gt ↦ let r = o.rising j i gt li in absurd (omega arith)
+          | inl lt ↦ let r = o i j lt lj in absurd (omega arith)
+          | inr gt ↦ let r = o j i gt li in absurd (omega arith)
         ]
       ]
 
   pub fewer : (m : ℕ) → m ≤ n → Ordered xs m
-  fewer m l = record { rising = λ i j a b. o.rising i j a (omega arith); sound = λ i b. o.sound i (omega arith) }
+  fewer m l i j a b = o i j a (omega arith)
 
   -- what is held is in range
   pub held_within : (p x y : ℕ) → held xs n p x y ≡ true → (p < 32) × (x < 256) × (y < 256)
   held_within p x y e =
       let a = (held_tells xs n p x y).0 e in
-      let s : Sound (row_of p x y) = rw (← a.2) (o.sound a.0 a.1) in
-      (s.port, s.provider, s.requirer)
+      let P : Binding → Type 0 = λ j. (j.port < 32) × (j.provider < 256) × (j.requirer < 256) in
+      subst P a.2 (row xs a.0).in_range
 
   -- at the place of the rank k stands the least row of this rank or more
   least_at : (k r i : ℕ) → Place xs n k r → i < n → k ≤ rank (row xs i) →
@@ -76,30 +92,31 @@ module _ (xs : List Row) (n : ℕ) (o : Ordered xs n) where
           | inr gt ↦
               let lr : r < n = omega arith in
               let a = at.after r (omega arith) lr in
-              let b = o.rising r i gt li in
+              let b = o r i gt li in
               (lr, a, omega arith)
         ]
       ]
 
   -- a binding is among the rows exactly if it stands at the place of its rank
-  module _ (b : Row) (s : Sound b) (k r : ℕ) (is : k ≡ rank b) (at : Place xs n k r) where
-    pub stands_at : Among xs n b → (r < n) × (row xs r ≡ b)
+  module _ (b : Row) (k r : ℕ) (is : k ≡ rank b) (at : Place xs n k r) where
+    pub stands_at : Among xs n (binding_of b) → (r < n) × (binding_of (row xs r) ≡ binding_of b)
     stands_at a =
-        let same = ap rank a.2 in
+        let same = one_rank (row xs a.0) b a.2 in
         let l = least_at k r a.0 at a.1 (omega arith) in
-        (l.0, rank_one (row xs r) b (o.sound r l.0) s (omega (arith, l.1, l.2)))
+        (l.0, rank_one (row xs r) b (omega (arith, l.1, l.2)))
 
-    at_tells : Decides (ltb r n && eqb (rank (row xs r)) k) (Among xs n b)
+    at_tells : Decides (ltb r n && eqb (rank (row xs r)) k) (Among xs n (binding_of b))
     at_tells = (
       (λ e.
           let t = and_parts (ltb r n) _ e in
           let lr = ltb-true r n t.0 in
-          (r, lr, rank_one (row xs r) b (o.sound r lr) s (eqb-true _ _ t.1 ∙ is))),
-      (λ a. let t = stands_at a in and_from (ltb r n) _ (lt-ltb r n t.0) (eq-eqb _ _ (ap rank t.1 ∙ sym is))),
+          (r, lr, rank_one (row xs r) b (eqb-true _ _ t.1 ∙ is))),
+      (λ a. let t = stands_at a in and_from (ltb r n) _ (lt-ltb r n t.0) (eq-eqb _ _ (one_rank (row xs r) b t.1 ∙ sym is))),
     )
 
-    pub held_found : (a : Bool) → a ≡ (ltb r n && eqb (rank (row xs r)) k) → a ≡ held xs n b.port b.provider b.requirer
-    held_found a e = e ∙ same_from_decides _ _ at_tells (held_tells xs n b.port b.provider b.requirer)
+    pub held_found : (j : Binding) → binding_of b ≡ j → (a : Bool) → a ≡ (ltb r n && eqb (rank (row xs r)) k) → a ≡ held xs n j.port j.provider j.requirer
+    held_found j of a e =
+        e ∙ same_from_decides _ _ at_tells (held_tells xs n b.port b.provider b.requirer) ∙ ap (λ (j : Binding). held xs n j.port j.provider j.requirer) of
 
   -- some row has the provider z
   module _ (f : ℕ → Option Pair) (z : ℕ) where
@@ -113,12 +130,11 @@ module _ (xs : List Row) (n : ℕ) (o : Ordered xs n) where
           let p = any_some (λ p. any (held xs n p z) 256) 32 e in
           let y = any_some (held xs n p.0 z) 256 p.2 in
           let a = (held_tells xs n p.0 z y.0).0 y.2 in
-          (a.0, a.1, ap (λ (b : Row). b.provider) a.2)),
+          (a.0, a.1, ap (λ (j : Binding). j.provider) a.2)),
       (λ a.
           let b = row xs a.0 in
-          let s = o.sound a.0 a.1 in
-          any_found (λ p. any (held xs n p z) 256) b.port 32 s.port
-          (any_found (held xs n b.port z) b.requirer 256 s.requirer
+          any_found (λ p. any (held xs n p z) 256) b.port 32 b.in_range.0
+          (any_found (held xs n b.port z) b.requirer 256 b.in_range.2
           ((held_tells xs n b.port z b.requirer).1
           (a.0, a.1, λ i. record { provider = a.2 i; requirer = b.requirer; port = b.port })))),
     )
@@ -132,16 +148,14 @@ module _ (xs : List Row) (n : ℕ) (o : Ordered xs n) where
         from_tells = (
           (λ e. let t = and_parts (ltb r n) _ e in (r, ltb-true r n t.0, eqb-true _ _ t.1)),
           (λ a.
-              let s = o.sound a.0 a.1 in
               let l = least_at (z * 8192) r a.0 at a.1 (omega (arith, a.2)) in
-              let t = o.sound r l.0 in
-              let is : (row xs r).provider ≡ z = omega (arith, a.2, l.1, l.2) in
+              let is : (row xs r).provider ≡ z = omega (arith, a.2, l.1, l.2, (row xs r).in_range, (row xs a.0).in_range) in
               and_from (ltb r n) _ (lt-ltb r n l.0) (eq-eqb _ _ is)),
         )
 
     pub provider_beyond : 255 < z → false ≡ provider_test (holding f xs n) z
     provider_beyond h =
-        sym (refuted _ (λ e. let a = provider_tells.0 e in let s = o.sound a.0 a.1 in omega (arith, a.2)))
+        sym (refuted _ (λ e. let a = provider_tells.0 e in omega (arith, a.2, (row xs a.0).in_range)))
 
 any_suc : (f : ℕ → Bool) (n : ℕ) → any f (suc n) ≡ (any f n || f n)
 unfolding any
@@ -152,10 +166,10 @@ pub row_count : (f : ℕ → Option Pair) (xs : List Row) (n : ℕ) → Ordered 
 row_count f xs zero o = bindings_none 32 256 (holding f xs 0) (λ p x y. any_none _)
 row_count f xs (suc n) o =
     let b = row xs n in
-    let s = o.sound n (omega arith) in
+    let s = b.in_range in
     let before = row_count f xs n (fewer xs (suc n) o n (omega arith)) in
     let more =
-    bindings_more 32 256 (holding f xs n) (holding f xs (suc n)) b.port b.provider b.requirer s.port s.provider s.requirer
+    bindings_more 32 256 (holding f xs n) (holding f xs (suc n)) b.port b.provider b.requirer s.0 s.1 s.2
     (λ p x y ne. held_suc p x y ∙ rw (same_false b.port b.provider b.requirer p x y ne) (or-false (held xs n p x y)))
     new
     (held_suc b.port b.provider b.requirer ∙ or_right (held xs n _ _ _) _ (same_self b.port b.provider b.requirer)) in
@@ -169,5 +183,5 @@ row_count f xs (suc n) o =
         refuted _ (λ e.
         let a = (held_tells xs n (row xs n).port (row xs n).provider (row xs n).requirer).0 e in
         let l = a.1 in
-        let same = one_place xs (suc n) o a.0 n (omega arith) (omega arith) (ap rank a.2) in
+        let same = one_place xs (suc n) o a.0 n (omega arith) (omega arith) (one_rank (row xs a.0) (row xs n) a.2) in
         omega arith)

@@ -4,8 +4,9 @@ use Rattle.std.specs.List.{CopiedTo, SameBelow}
 use Rattle.std.specs.List.Sorted.{IsPartitionPoint, IsPartitionedBy}
 use Rattle.std.proofs.lemmas.List.{get_or-set_same, get_or-set_other, get_or-take, get_or_default, length-take-le}
 use Rattle.std.proofs.lemmas.Bool.{cases_lt, lt-ltb, ltb-true, ltb-false}
-use Rattle.table.specs.declared.rows.Row.{Row}
-use Rattle.table.specs.Rows.{blank, row, rank, Sound, Ordered, Place, Opened, Closed, Kept}
+use Rattle.table.specs.declared.row.Row.{Row}
+use Rattle.table.specs.Rows.{binding_of, blank, row, rank, Ordered, Place, Opened, Closed, Kept}
+use Rattle.table.proofs.RowSearch.{one_rank}
 
 -- the point at which the first n rows reach the rank k is its place
 pub partition_place : (xs : List Row) (n k r : ℕ) → n ≤ length xs → r ≤ length (take n xs) →
@@ -36,7 +37,7 @@ rows_parted xs n k room o i j d l m h =
     rises : rank (row xs i) ≤ rank (row xs j)
     rises =
         elim (cases_lt i j) [
-          | inl lt ↦ let r = o.rising i j lt (low j m) in omega arith
+          | inl lt ↦ let r = o i j lt (low j m) in omega arith
           | inr ge ↦ let e : i ≡ j = omega arith in omega (arith, ap (λ k. rank (row xs k)) e)
         ]
 
@@ -86,20 +87,13 @@ module _ (xs ys : List Row) (n i m z : ℕ) (o : Ordered xs n) (li : i < n) (kep
     rises : (j k : ℕ) → j < k → k < m + 1 → rank (row after j) < rank (row after k)
     rises j k a b =
         elim (cases_lt k m) [
-          | inl lt ↦ let r = kept.ordered.rising j k a lt in rw (old j (omega arith), old k lt) r
+          | inl lt ↦ let r = kept.ordered j k a lt in rw (old j (omega arith), old k lt) r
           | inr ge ↦
               let e : k ≡ m = omega arith in
               let lj : j < m = omega arith in
               let f = (kept.from j lj).0 in
-              let r = o.rising f.0 i f.1 li in
-              rw (e, new, old j lj, ← f.2) r
-        ]
-
-    sounds : (j : ℕ) → j < m + 1 → Sound (row after j)
-    sounds j l =
-        elim (cases_lt j m) [
-          | inl lt ↦ rw (old j lt) (kept.ordered.sound j lt)
-          | inr ge ↦ let e : j ≡ m = omega arith in rw (e, new) (o.sound i li)
+              let r = o f.0 i f.1 li in
+              rw (e, new, old j lj, ← one_rank (row xs f.0) (row ys j) f.2) r
         ]
 
     pub keep_one : Kept xs after (i + 1) (m + 1) z
@@ -107,14 +101,14 @@ module _ (xs ys : List Row) (n i m z : ℕ) (o : Ordered xs n) (li : i < n) (kep
         record {
           fewer = omega (arith, kept.fewer);
           from = λ j l. elim (cases_lt j m) [
-            | inl lt ↦ let r = kept.from j lt in ((r.0.0, omega (arith, r.0.1), r.0.2 ∙ sym (old j lt)), rw (old j lt) r.1)
-            | inr ge ↦ let e : j ≡ m = omega arith in ((i, omega arith, sym (ap (row after) e ∙ new)), rw (e, new, ← rest i (omega arith)) ne)
+            | inl lt ↦ let r = kept.from j lt in ((r.0.0, omega (arith, r.0.1), r.0.2 ∙ ap binding_of (sym (old j lt))), rw (old j lt) r.1)
+            | inr ge ↦ let e : j ≡ m = omega arith in ((i, omega arith, ap binding_of (sym (ap (row after) e ∙ new))), rw (e, new, ← rest i (omega arith)) ne)
           ];
           all = λ k l other. elim (cases_lt k i) [
-            | inl lt ↦ let r = kept.all k lt other in (r.0, omega (arith, r.1), old r.0 r.1 ∙ r.2)
-            | inr ge ↦ let e : k ≡ i = omega arith in (m, omega arith, new ∙ ap (row xs) (sym e))
+            | inl lt ↦ let r = kept.all k lt other in (r.0, omega (arith, r.1), ap binding_of (old r.0 r.1) ∙ r.2)
+            | inr ge ↦ let e : k ≡ i = omega arith in (m, omega arith, ap binding_of (new ∙ ap (row xs) (sym e)))
           ];
-          ordered = record { rising = rises; sound = sounds };
+          ordered = rises;
         }
 
     pub keep_rest : (k : ℕ) → i + 1 ≤ k → row after k ≡ row xs k

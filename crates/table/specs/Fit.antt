@@ -3,7 +3,7 @@ use Rattle.std.specs.Prelude.{◌≡◌, ℕ, ◌<◌, ◌≤◌, cond, List, le
 use Rattle.model.specs.declared.pair.Pair.{Pair}
 use Rattle.model.specs.Config.{Config}
 use Rattle.model.specs.Counts.{instances}
-use Rattle.table.specs.declared.rows.Row.{Row}
+use Rattle.table.specs.declared.row.Row.{Row}
 use Rattle.table.specs.Rows.{held, row, Ordered}
 
 -- what stands under the number z

@@ -1,13 +1,10 @@
 -- Rows of bindings in rising order: what they hold, and what the work on them leaves.
 use Rattle.std.specs.Prelude.{◌≡◌, ℕ, ◌+◌, ◌*◌, ◌<◌, ◌≤◌, Bool, ◌≢◌, List, slice_index_or}
+use Rattle.std.proofs.Common.{lit<}
 use Rattle.model.specs.Search.{any}
 use Rattle.model.specs.Orders.{same}
 use Rattle.model.specs.declared.binding.Binding.{Binding}
-use Rattle.table.specs.declared.rows.Row.{Row}
-
--- the row of the binding on the port p from x to y
-abbrev pub row_of : ℕ → ℕ → ℕ → Row
-row_of p x y = record { provider = x; requirer = y; port = p }
+use Rattle.table.specs.declared.row.Row.{Row}
 
 -- the binding of a row
 abbrev pub binding_of : Row → Binding
@@ -15,7 +12,7 @@ binding_of b = record { port = b.port; provider = b.provider; requirer = b.requi
 
 -- what the rows hold behind their end
 abbrev pub blank : Row
-blank = row_of 0 0 0
+blank = record { provider = 0; requirer = 0; port = 0; in_range = (lit< tt, lit< tt, lit< tt) }
 
 -- the row i
 abbrev pub row : List Row → ℕ → Row
@@ -33,20 +30,13 @@ joins b p x y = same b.port b.provider b.requirer p x y
 abbrev pub held : List Row → ℕ → ℕ → ℕ → ℕ → Bool
 held xs n p x y = any (λ i. joins (row xs i) p x y) n
 
--- b is one of the first n rows
-abbrev pub Among : List Row → ℕ → Row → Type 0
-Among xs n b = (i : ℕ) × (i < n) × (row xs i ≡ b)
+-- one of the first n rows is that of the binding j
+abbrev pub Among : List Row → ℕ → Binding → Type 0
+Among xs n j = (i : ℕ) × (i < n) × (binding_of (row xs i) ≡ j)
 
--- the numbers of a row are in range
-pub record Sound (b : Row) : Type 0 where
-  pub provider : b.provider < 256
-  pub requirer : b.requirer < 256
-  pub port : b.port < 32
-
--- the first n rows rise, and their numbers are in range
-pub record Ordered (xs : List Row) (n : ℕ) : Type 0 where
-  pub rising : (i j : ℕ) → i < j → j < n → rank (row xs i) < rank (row xs j)
-  pub sound : (i : ℕ) → i < n → Sound (row xs i)
+-- the first n rows rise
+abbrev pub Ordered : List Row → ℕ → Type 0
+Ordered xs n = (i j : ℕ) → i < j → j < n → rank (row xs i) < rank (row xs j)
 
 -- r is where a row of rank k stands among the first n, or would stand
 pub record Place (xs : List Row) (n k r : ℕ) : Type 0 where
@@ -68,6 +58,6 @@ pub record Closed (xs ys : List Row) (r n : ℕ) : Type 0 where
 -- the first m rows of ys, which rise, are those of the first n of xs whose requirer is not z
 pub record Kept (xs ys : List Row) (n m z : ℕ) : Type 0 where
   pub fewer : m ≤ n
-  pub from : (j : ℕ) → j < m → Among xs n (row ys j) × ((row ys j).requirer ≢ z)
-  pub all : (i : ℕ) → i < n → (row xs i).requirer ≢ z → Among ys m (row xs i)
+  pub from : (j : ℕ) → j < m → Among xs n (binding_of (row ys j)) × ((row ys j).requirer ≢ z)
+  pub all : (i : ℕ) → i < n → (row xs i).requirer ≢ z → Among ys m (binding_of (row xs i))
   pub ordered : Ordered ys m

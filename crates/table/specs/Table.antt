@@ -66,6 +66,6 @@ lawful_of t =
           let r = t.records in
           let f = any_some (λ i. joins (row r.rows i) p x y) r.len b in
           let e = same_true (row r.rows f.0).port (row r.rows f.0).provider (row r.rows f.0).requirer p x y f.2 in
-          let k = r.fit.ordered.sound f.0 f.1 in
-          (omega (arith, e.0, t.ranged f.0 f.1), omega (arith, e.1, k.provider), omega (arith, e.2, k.requirer));
+          let k = (row r.rows f.0).in_range in
+          (omega (arith, e.0, t.ranged f.0 f.1), omega (arith, e.1, k), omega (arith, e.2, k));
     }

@@ -4,6 +4,7 @@
 pub mod limits;
 mod orders;
 mod records;
+mod row;
 mod rows;
 pub mod table;
 mod work;

@@ -1,7 +1,7 @@
 // The records of a configuration: what stands under each number, and a row for each binding.
 ghost use Rattle.table.specs.Fit.{Fit};
 
-use crate::rows::Row;
+use crate::row::Row;
 use model::pair::Pair;
 
 // The first `len` rows are in use, and `count` instances stand. The table has no heap memory, so its arrays are as

@@ -1,15 +1,9 @@
-// Rows: bindings as the records hold them, in rising order of provider, requirer and port.
+// What a row tells, and the moves of rows in rising order of provider, requirer and port.
 ghost use Rattle.std.specs.Prelude.{◌≡◌, ◌<◌, ◌≤◌, ◌==◌, length};
-ghost use Rattle.table.specs.Rows.{row_of, rank as rank_of, Closed, Kept, Opened, Ordered};
+ghost use Rattle.table.specs.Rows.{binding_of, rank as rank_of, Closed, Kept, Opened, Ordered};
 
+use crate::row::Row;
 use model::binding::Binding;
-
-#[derive(Clone, Copy)]
-pub struct Row {
-    pub provider: u8,
-    pub requirer: u8,
-    pub port: u8,
-}
 
 // What the rows hold behind their end.
 pub(crate) const BLANK_ROW: Row = Row {
@@ -22,7 +16,7 @@ impl Row {
     // The row of a binding whose numbers are in range; `TryFrom` would have an error where none can come.
     pub(crate) fn of(binding: Binding) -> Row
         requires { (binding.port < 32) × ((binding.provider < 256) × (binding.requirer < 256)) }
-        ensures { result ≡ row_of binding.port binding.provider binding.requirer }
+        ensures { binding_of result ≡ binding }
     {
         Row {
             provider: binding.provider as u8,
@@ -86,8 +80,9 @@ pub(crate) fn keep_others(rows: &mut [Row], len: usize, instance: u8) -> usize
 {
     let mut left = 0;
     for i in 0..len {
-        if !rows[i].ends_at(instance) {
-            rows[left] = rows[i];
+        let row = rows[i];
+        if !row.ends_at(instance) {
+            rows[left] = row;
             left += 1;
         }
     }

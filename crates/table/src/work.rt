@@ -9,7 +9,8 @@ ghost use Rattle.table.specs.Rows.{Place, binding_of};
 ghost use Rattle.table.specs.Records.{Able, config_of};
 
 use crate::records::Records;
-use crate::rows::{BLANK_ROW, Row, close_at, keep_others, open_at};
+use crate::row::Row;
+use crate::rows::{BLANK_ROW, close_at, keep_others, open_at};
 use model::binding::Binding;
 use model::order::Order;
 use model::pair::Pair;
@@ -109,7 +110,7 @@ impl Records {
 
     // A binding more.
     pub(crate) fn bind(&mut self, row: Row)
-        requires room { (row.port < 32) × (bindings 32 256 (config_of self.old) < 2048) }
+        requires room { bindings 32 256 (config_of self.old) < 2048 }
         requires unbound { (config_of self.old).bound row.port row.provider row.requirer ≡ false }
         ensures { config_of self.new ≡ result_of (Bind (binding_of row)) (config_of self.old) }
     {
@@ -121,8 +122,7 @@ impl Records {
 
     // A binding less.
     pub(crate) fn unbind(&mut self, row: Row)
-        requires in_range { row.port < 32 }
-        requires standing { (config_of self.old).bound row.port row.provider row.requirer ≡ true }
+        requires { (config_of self.old).bound row.port row.provider row.requirer ≡ true }
         ensures { config_of self.new ≡ result_of (Unbind (binding_of row)) (config_of self.old) }
     {
         let place = self.place_of(row.rank());

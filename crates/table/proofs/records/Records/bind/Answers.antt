@@ -12,12 +12,17 @@ bounds-self-place c =
     let t = c.args.self.now in
     omega (arith, len_counts t.slots t.rows t.len t.count t.fit, c.place_of-place.ensures.most)
 
+pub listed : goal.listed
+listed c =
+    let t = c.args.self.now in
+    omega (arith, len_counts t.slots t.rows t.len t.count t.fit, t.fit.room, c.place_of-place.ensures.most, c.open_at.ensures.size)
+
 pub invariant_of-self : goal.invariant_of-self
 invariant_of-self c =
     let t = c.args.self.now in
     let room : t.len < 2048 = omega (arith, len_counts t.slots t.rows t.len t.count t.fit) in
     record {
-      fit = bound_fit t.slots t.rows t.len t.count t.fit c.args.row (record { provider = omega arith; requirer = omega arith; port = c.requires.room.0 })
+      fit = bound_fit t.slots t.rows t.len t.count t.fit c.args.row
           c.rank.result c.place_of-place.result c.rank.ensures c.place_of-place.ensures
           c.open_at.new.rows c.open_at.ensures.size c.open_at.ensures.opened room c.requires.unbound;
     }
@@ -26,6 +31,6 @@ pub returns : goal.returns
 returns c =
     let t = c.args.self.now in
     let room : t.len < 2048 = omega (arith, len_counts t.slots t.rows t.len t.count t.fit) in
-    bound t.slots t.rows t.len t.count t.fit c.args.row (record { provider = omega arith; requirer = omega arith; port = c.requires.room.0 })
+    bound t.slots t.rows t.len t.count t.fit c.args.row
     c.rank.result c.place_of-place.result c.rank.ensures c.place_of-place.ensures
     c.open_at.new.rows c.open_at.ensures.size c.open_at.ensures.opened room c.requires.unbound

@@ -6,22 +6,22 @@ pub close_at-requires : goal.close_at-requires
 close_at-requires c =
     let t = c.args.self.now in
     let at =
-    row_at t.slots t.rows t.len t.count t.fit c.args.row (record { provider = omega arith; requirer = omega arith; port = c.requires.in_range })
-    c.rank.result c.place_of-place.result c.rank.ensures c.place_of-place.ensures c.requires.standing in
+    row_at t.slots t.rows t.len t.count t.fit c.args.row
+    c.rank.result c.place_of-place.result c.rank.ensures c.place_of-place.ensures c.requires in
     (at.0, omega (arith, t.fit.most, t.fit.room))
 
 pub invariant_of-self : goal.invariant_of-self
 invariant_of-self c =
     let t = c.args.self.now in
     record {
-      fit = unbound_fit t.slots t.rows t.len t.count t.fit c.args.row (record { provider = omega arith; requirer = omega arith; port = c.requires.in_range })
-          c.rank.result c.place_of-place.result c.rank.ensures c.place_of-place.ensures c.requires.standing
+      fit = unbound_fit t.slots t.rows t.len t.count t.fit c.args.row
+          c.rank.result c.place_of-place.result c.rank.ensures c.place_of-place.ensures c.requires
           c.close_at.new.rows c.close_at.ensures.size c.close_at.ensures.closed;
     }
 
 pub returns : goal.returns
 returns c =
     let t = c.args.self.now in
-    unbound t.slots t.rows t.len t.count t.fit c.args.row (record { provider = omega arith; requirer = omega arith; port = c.requires.in_range })
-    c.rank.result c.place_of-place.result c.rank.ensures c.place_of-place.ensures c.requires.standing
+    unbound t.slots t.rows t.len t.count t.fit c.args.row
+    c.rank.result c.place_of-place.result c.rank.ensures c.place_of-place.ensures c.requires
     c.close_at.new.rows c.close_at.ensures.size c.close_at.ensures.closed
