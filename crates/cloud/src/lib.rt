@@ -14,6 +14,7 @@ mod state;
 
 pub use crate::state::Cloud;
 use hosts::host::Host;
+use hosts::load::Load;
 use hosts::refusal::{Reason, Refusal};
 use hosts::survey::Survey;
 use model::binding::Binding;
@@ -88,8 +89,12 @@ impl Host for Cloud {
 
     ghost sane = { λ s. record { waits = s.bounds; height = lit≤ tt } };
 
-    fn waits(&self) -> u32 {
-        self.waits
+    fn load(&self) -> Load {
+        Load {
+            waits: self.waits,
+            creations: self.table.creation_allowance(),
+            bindings: self.table.binding_allowance(),
+        }
     }
 
     fn longest_wait(&self) -> u32 {
@@ -98,14 +103,6 @@ impl Host for Cloud {
 
     fn is_watchful(&self) -> bool {
         false
-    }
-
-    fn creation_allowance(&self) -> u32 {
-        self.table.creation_allowance()
-    }
-
-    fn binding_allowance(&self) -> u32 {
-        self.table.binding_allowance()
     }
 
     fn height(&self) -> u8 {

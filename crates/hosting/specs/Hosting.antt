@@ -4,28 +4,19 @@ use Rattle.model.specs.declared.order.Order.{Order}
 use Rattle.model.specs.Bounded.{any_gap}
 use Rattle.hosts.specs.Answers.{Answer, Answered, Meaning}
 use Rattle.hosts.specs.Refusals.{refusal_text}
-use Rattle.hosts.specs.Service.{Load as HostLoad}
+use Rattle.hosts.specs.Loads.{load_text}
 use Rattle.hosts.specs.Survey.{Situation, bindings_of, instances_of}
 use Rattle.model.specs.Written.{written}
-use Rattle.hosting.specs.declared.Load.{Load}
+use Rattle.hosts.specs.declared.load.Load.{Load}
 
 -- the end of a text line
 abbrev pub newline : List ℕ
 newline = 10 ∷ []
 
--- the load of a host
-abbrev pub load_of : HostLoad → Load
-load_of l = record { waits = l.waits; creations = l.creations; bindings = l.bindings }
-
 -- a host's answer: done, or the number of the refusal and the height of the layer that gave it
 abbrev pub answer_text_of : Answer → List ℕ
 answer_text_of (Ok x) = codes "done"
 answer_text_of (Err e) = codes "refused " ++ refusal_text e
-
--- waits and allowances
-abbrev pub load_text : Load → List ℕ
-load_text l =
-    codes "(waits " ++ (decimal l.waits ++ (codes ", creations " ++ (decimal l.creations ++ (codes ", bindings " ++ (decimal l.bindings ++ codes ")")))))
 
 -- the line of an order: its written form, the answer, then waits and allowances
 abbrev pub order_line_of : Order → Answer → Load → List ℕ
@@ -36,7 +27,7 @@ order_line_of o a l = written o ++ (codes ": " ++ (answer_text_of a ++ (codes " 
 pub record Told (o : Order) (m n : Meaning) (text : List ℕ) : Type 0 where
   pub answer : Answer
   pub answered : Answered o m n answer
-  pub line : text ≡ order_line_of o answer (load_of n.service.load)
+  pub line : text ≡ order_line_of o answer n.service.load
 
 abbrev pub yes_no_of : Bool → List ℕ
 yes_no_of true = codes "yes"

@@ -1,54 +1,17 @@
 // What the command `host` prints of the orders that it gives, made from values.
 #![tactic(auto)]
 
-ghost use Rattle.std.specs.Prelude.{◌≡◌, IfOk, Some, string_bytes};
+ghost use Rattle.std.specs.Prelude.{◌≡◌, IfOk, string_bytes};
 ghost use Rattle.hosts.specs.Answers.{meaning};
-ghost use Rattle.hosting.specs.Hosting.{Reported, Told, answer_text_of, end_line_of, load_of, load_text, order_line_of, survey_line};
+ghost use Rattle.hosting.specs.Hosting.{Reported, Told, answer_text_of, end_line_of, order_line_of, survey_line};
 
 use hosts::host::{Host, give};
+use hosts::load::Load;
 use hosts::refusal::Refusal;
 use hosts::survey::Survey;
 use model::order::Order;
-use rules::gaps::find_gap;
+use rules::gaps::{Prospect, find_gap};
 use std::alloc::{AllocError, Global};
-use std::fmt;
-
-// What orders move at a host: the waits that are left, and the allowances.
-#[derive(Clone, Copy, PartialEq, Eq, Debug)]
-pub struct Load {
-    pub waits: u32,
-    pub creations: u32,
-    pub bindings: u32,
-}
-
-impl Load {
-    // The load of a host.
-    pub fn of<B: Host>(host: &B) -> Load
-        ensures { result ≡ load_of (B.service host.now).load }
-    {
-        Load {
-            waits: host.waits(),
-            creations: host.creation_allowance(),
-            bindings: host.binding_allowance(),
-        }
-    }
-}
-
-impl fmt::Display for Load {
-    ghost output = { λ load. Some (load_text load) };
-
-    fn fmt<W: fmt::Write>(&self, f: &mut fmt::Formatter<W>) -> fmt::Result {
-        let Load {
-            waits,
-            creations,
-            bindings,
-        } = self;
-        write!(
-            f,
-            "(waits {waits}, creations {creations}, bindings {bindings})"
-        )
-    }
-}
 
 // A host's answer to an order: `done`, or `refused N by HEIGHT`.
 pub fn answer_text(alloc: Global, answer: Result<(), Refusal>) -> Result<String, AllocError>
@@ -82,7 +45,7 @@ pub fn order_report<B: Host>(
     ensures { IfOk result (λ s. Told order (meaning (B.Survey.situation host.old) (B.service host.old)) (meaning (B.Survey.situation host.new) (B.service host.new)) (string_bytes s)) }
 {
     let answer = give(host, order);
-    order_line(alloc, order, answer, Load::of(host))
+    order_line(alloc, order, answer, host.load())
 }
 
 // The last line: how much stands, and whether it is gap-free.
@@ -102,7 +65,7 @@ pub fn end_line(
 pub fn end_report<S: Survey>(alloc: Global, survey: &S) -> Result<String, AllocError>
     ensures { IfOk result (λ s. string_bytes s ≡ survey_line (S.situation survey.now)) }
 {
-    let gap_free = find_gap(survey).is_none();
+    let gap_free = find_gap(survey, Prospect::Present).is_none();
     end_line(alloc, survey.instances(), survey.bindings(), gap_free)
 }
 

@@ -11,7 +11,8 @@ use Rattle.hosts.specs.declared.refusal.Offence.{Offence}
 use Rattle.hosts.specs.declared.refusal.Reason.{Reason}
 use Rattle.hosts.specs.declared.refusal.Reason.TheVariants.{Busy, Gap, Full}
 use Rattle.hosts.specs.Survey.{Situation, Lawful}
-use Rattle.hosts.specs.Service.{Load, Profile}
+use Rattle.hosts.specs.declared.load.Load.{Load}
+use Rattle.hosts.specs.Service.{Profile}
 use Rattle.hosts.specs.Offences.{refused_if, offence}
 use Rattle.hosts.specs.Answers.{Meaning, Answer, settled, illegal_or, decision, leaves_gap, full_test, is_tested}
 use Rattle.hosts.specs.Laws.{Expected, Covers, BusyLaw, DoneLaw, RefusedLaw, ExpectedLaw, CoveredLaw, KeptLaw}

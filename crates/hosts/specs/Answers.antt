@@ -9,7 +9,8 @@ use Rattle.hosts.specs.declared.refusal.Reason.{Reason}
 use Rattle.hosts.specs.declared.refusal.Reason.TheVariants.{Busy, Illegal, Gap, Full}
 use Rattle.hosts.specs.declared.refusal.Refusal.{Refusal}
 use Rattle.hosts.specs.Survey.{Situation}
-use Rattle.hosts.specs.Service.{Load, Service}
+use Rattle.hosts.specs.declared.load.Load.{Load}
+use Rattle.hosts.specs.Service.{Service}
 use Rattle.hosts.specs.Offences.{refused_if, offence}
 
 -- what a host means

@@ -9,7 +9,8 @@ use Rattle.model.specs.Orders.{Legal, result_of}
 use Rattle.hosts.specs.declared.refusal.Reason.{Reason}
 use Rattle.hosts.specs.declared.refusal.Reason.TheVariants.{Busy, Illegal, Gap, Full}
 use Rattle.hosts.specs.Survey.{Situation, Lawful}
-use Rattle.hosts.specs.Service.{Load, Sane}
+use Rattle.hosts.specs.declared.load.Load.{Load}
+use Rattle.hosts.specs.Service.{Sane}
 use Rattle.hosts.specs.Offences.{offence}
 use Rattle.hosts.specs.Answers.{Meaning, Answer, Answered, reason_of, waited_once, is_create, is_bind}
 

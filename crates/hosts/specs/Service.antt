@@ -1,14 +1,6 @@
 -- What a host means besides what stands in it.
 use Rattle.std.specs.Prelude.{ℕ, ◌≤◌, Bool}
-
--- what orders move
-pub record Load : Type 0 where
-  -- how many of the coming orders are put off
-  pub waits : ℕ
-  -- how many creations are allowed
-  pub creations : ℕ
-  -- how many bindings are allowed
-  pub bindings : ℕ
+use Rattle.hosts.specs.declared.load.Load.{Load}
 
 -- what no call alters
 pub record Profile : Type 0 where

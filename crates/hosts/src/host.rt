@@ -4,6 +4,7 @@ ghost use Rattle.model.specs.declared.order.Order.TheVariants.{Create, Bind, Cha
 ghost use Rattle.hosts.specs.Service.{Sane, Service};
 ghost use Rattle.hosts.specs.Answers.{Gives};
 
+use crate::load::Load;
 use crate::refusal::Refusal;
 use crate::survey::Survey;
 use model::binding::Binding;
@@ -16,9 +17,9 @@ pub trait Host: Survey {
     // Waits are up to the longest wait, and the height is up to 255.
     ghost sane: { (x : Self) → Sane (service x) };
 
-    // How many of the coming orders are put off.
-    fn waits(&self) -> u32
-        ensures { result ≡ (service self.now).load.waits };
+    // What orders move: how many are put off, and what is allowed.
+    fn load(&self) -> Load
+        ensures { result ≡ (service self.now).load };
 
     // The longest wait.
     fn longest_wait(&self) -> u32
@@ -27,14 +28,6 @@ pub trait Host: Survey {
     // Whether orders that leave a gap are refused.
     fn is_watchful(&self) -> bool
         ensures { result ≡ (service self.now).profile.watchful };
-
-    // How many creations are allowed.
-    fn creation_allowance(&self) -> u32
-        ensures { result ≡ (service self.now).load.creations };
-
-    // How many bindings are allowed.
-    fn binding_allowance(&self) -> u32
-        ensures { result ≡ (service self.now).load.bindings };
 
     // How many layers lie below, up to 255.
     fn height(&self) -> u8

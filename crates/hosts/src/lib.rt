@@ -3,5 +3,6 @@
 
 pub mod host;
 pub mod laws;
+pub mod load;
 pub mod refusal;
 pub mod survey;

@@ -8,21 +8,21 @@ use std::fmt;
 #[derive(Clone, Copy, PartialEq, Eq, Debug)]
 pub enum Offence {
     // An instance is above 255, there is no such type or port, or the state is above 7.
-    OutOfRange,
+    OutOfRange = 22,
     // Create: the instance stands.
-    Standing,
+    Standing = 23,
     // The other orders: an instance does not stand.
-    NotStanding,
+    NotStanding = 24,
     // Bind: provider and requirer are one, or their types never provide or never require the port.
-    Unfit,
+    Unfit = 25,
     // Bind: the binding stands.
-    Bound,
+    Bound = 26,
     // Unbind: the binding does not stand.
-    Unbound,
+    Unbound = 27,
     // Change: the state is no successor.
-    NoSuccessor,
+    NoSuccessor = 28,
     // Delete: the instance is the provider of a binding.
-    Provider,
+    Provider = 29,
 }
 
 impl Offence {
@@ -30,16 +30,7 @@ impl Offence {
     pub fn number(self) -> u8
         ensures { result ≡ offence_number self }
     {
-        match self {
-            Offence::OutOfRange => 22,
-            Offence::Standing => 23,
-            Offence::NotStanding => 24,
-            Offence::Unfit => 25,
-            Offence::Bound => 26,
-            Offence::Unbound => 27,
-            Offence::NoSuccessor => 28,
-            Offence::Provider => 29,
-        }
+        self as u8
     }
 }
 

@@ -6,12 +6,13 @@ ghost use Rattle.hosts.specs.Answers.{Gives, meaning};
 ghost use Rattle.layers.specs.Verifying.{Relays, above, stopped, watched, watched_sane};
 
 use hosts::host::{Host, give};
+use hosts::load::Load;
 use hosts::refusal::{Offence, Reason, Refusal};
 use hosts::survey::Survey;
 use model::binding::Binding;
 use model::order::Order;
 use model::pair::Pair;
-use rules::gaps::{find_gap_after_change, find_gap_after_unbind};
+use rules::gaps::{Prospect, find_gap};
 use rules::legality::{change_offence, unbind_offence};
 use universe::held::Universe;
 
@@ -24,7 +25,7 @@ pub struct Verifying<B> {
 fn is_admitted<B: Host>(host: &B, offence: Option<Offence>) -> bool
     ensures { result ≡ ((B.service host.now).load.waits == 0 && not (is_some offence)) }
 {
-    host.waits() == 0 && offence.is_none()
+    host.load().waits == 0 && offence.is_none()
 }
 
 // Whether the layer over the host stops the order: it would leave a gap, and nothing else refuses it before.
@@ -32,14 +33,14 @@ fn does_stop<B: Host>(host: &B, order: Order) -> bool
     ensures { result ≡ stopped order (meaning (B.Survey.situation host.now) (B.service host.now)) }
 {
     match order {
-        // `as`: a state without offence is at most 7.
         Order::Change { instance, state } => {
+            // `as`: a state without offence is at most 7.
             is_admitted(host, change_offence(host, instance, state))
-                && find_gap_after_change(host, instance, state as u8).is_some()
+                && find_gap(host, Prospect::Changed { instance, state: state as u8 }).is_some()
         }
         Order::Unbind(binding) => {
             is_admitted(host, unbind_offence(host, binding))
-                && find_gap_after_unbind(host, binding).is_some()
+                && find_gap(host, Prospect::Unbound(binding)).is_some()
         }
         Order::Create { .. } | Order::Bind(_) | Order::Delete { .. } => false,
     }
@@ -120,8 +121,8 @@ impl<B: Host> Host for Verifying<B> {
 
     ghost sane = { λ s. watched_sane (B.Host.service s.below) (B.Host.sane s.below) };
 
-    fn waits(&self) -> u32 {
-        self.below.waits()
+    fn load(&self) -> Load {
+        self.below.load()
     }
 
     fn longest_wait(&self) -> u32 {
@@ -130,14 +131,6 @@ impl<B: Host> Host for Verifying<B> {
 
     fn is_watchful(&self) -> bool {
         true
-    }
-
-    fn creation_allowance(&self) -> u32 {
-        self.below.creation_allowance()
-    }
-
-    fn binding_allowance(&self) -> u32 {
-        self.below.binding_allowance()
     }
 
     fn height(&self) -> u8 {

@@ -76,9 +76,13 @@ order_of_fields f =
     (cond (f.operation == 5 && unused (f.second ∷ f.port ∷ f.kind ∷ f.state ∷ f.spare ∷ [])) (Ok (Delete f.first))
     (Err NotALine)))))
 
+-- the number that has the fields, refused where one is too large for its bits
+abbrev pub packed_fields : Fields → Result ℕ LineRefusal
+packed_fields f = cond (fits f) (Ok (line_of_fields f)) (Err NotALine)
+
 -- the line of an order, refused where the order is too large for its fields
 abbrev pub encoded : Order → Result ℕ LineRefusal
-encoded o = cond (fits (fields_of_order o)) (Ok (line_of_fields (fields_of_order o))) (Err NotALine)
+encoded o = packed_fields (fields_of_order o)
 
 -- the order of a line, refused where the number is no line
 abbrev pub decoded : ℕ → Result Order LineRefusal

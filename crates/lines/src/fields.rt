@@ -1,6 +1,6 @@
 // The fields of a line, between the number and the order.
-ghost use Rattle.std.specs.Prelude.{◌≡◌, ◌<◌, true};
-ghost use Rattle.lines.specs.Line.{binding_of_fields, bits, fields, fits, fields_of_line, fields_of_order, line_of_fields, order_of_fields, unused};
+ghost use Rattle.std.specs.Prelude.{◌≡◌, ◌<◌};
+ghost use Rattle.lines.specs.Line.{binding_of_fields, bits, fields, fits, fields_of_line, fields_of_order, order_of_fields, packed_fields, unused};
 
 use crate::refusal::LineRefusal;
 use model::binding::Binding;
@@ -126,6 +126,27 @@ impl TryFrom<Fields> for Order {
     }
 }
 
+// The number that has the fields; refused where one is too large for its bits.
+impl TryFrom<Fields> for u32 {
+    type Error = LineRefusal;
+
+    ghost try_from_gives = { λ fields line. line ≡ packed_fields fields };
+
+    #[tactic(auto, using(crate::proofs::Packing::joined, crate::proofs::Packing::small))]
+    fn try_from(fields: Fields) -> Result<u32, LineRefusal> {
+        if !fields.fits() {
+            return Err(LineRefusal::NotALine);
+        }
+        Ok((fields.operation << 29)
+            | (fields.first << 21)
+            | (fields.second << 13)
+            | (fields.port << 8)
+            | (fields.kind << 4)
+            | (fields.state << 1)
+            | fields.spare)
+    }
+}
+
 impl Fields {
     // The fields of a bind or an unbind: the first instance is the provider and the second the requirer.
     fn of_binding(operation: u32, binding: Binding) -> Fields
@@ -151,23 +172,8 @@ impl Fields {
         }
     }
 
-    // The number that has the fields, each of which fits its bits: so it is a method, and no `From`.
-    #[tactic(auto, using(crate::proofs::Packing::joined, crate::proofs::Packing::small))]
-    pub(crate) fn to_line(self) -> u32
-        requires { fits self ≡ true }
-        ensures { result ≡ line_of_fields self }
-    {
-        (self.operation << 29)
-            | (self.first << 21)
-            | (self.second << 13)
-            | (self.port << 8)
-            | (self.kind << 4)
-            | (self.state << 1)
-            | self.spare
-    }
-
     // Each field fits its bits.
-    pub(crate) fn fits(self) -> bool
+    fn fits(self) -> bool
         ensures { result ≡ fits self }
     {
         self.operation < 8

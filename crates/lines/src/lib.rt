@@ -19,12 +19,7 @@ use refusal::LineRefusal;
 pub fn encode(order: Order) -> Result<u32, LineRefusal>
     ensures { result ≡ encoded order }
 {
-    let fields = Fields::from(order);
-    if fields.fits() {
-        Ok(fields.to_line())
-    } else {
-        Err(LineRefusal::NotALine)
-    }
+    u32::try_from(Fields::from(order))
 }
 
 // The order of a line; refused where the number is no line.

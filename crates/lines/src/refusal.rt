@@ -7,7 +7,7 @@ use std::fmt;
 #[derive(Clone, Copy, PartialEq, Eq, Debug)]
 pub enum LineRefusal {
     // The order is too large for its fields, or the number is no line.
-    NotALine,
+    NotALine = 43,
 }
 
 impl LineRefusal {
@@ -15,9 +15,7 @@ impl LineRefusal {
     pub fn number(self) -> u8
         ensures { result ≡ line_number self }
     {
-        match self {
-            LineRefusal::NotALine => 43,
-        }
+        self as u8
     }
 }
 

@@ -1,12 +1,12 @@
 -- The search for the first gap, and what it tells.
-use Rattle.std.specs.Prelude.{ℕ, ◌<◌, cond, Some, None, Option}
+use Rattle.std.specs.Prelude.{◌≡◌, is_some, ℕ, ◌<◌, cond, Some, None, Option}
 use Rattle.model.specs.declared.order.Order.TheVariants.{Change, Unbind}
 use Rattle.model.specs.Search.{find_first}
 use Rattle.model.specs.Universe.{Universe}
 use Rattle.model.specs.Config.{Config}
 use Rattle.model.specs.Gaps.{Gap, GapFree}
 use Rattle.model.specs.Orders.{result_of}
-use Rattle.model.specs.Bounded.{gap_at}
+use Rattle.model.specs.Bounded.{gap_at, any_gap}
 use Rattle.rules.specs.declared.gaps.FoundGap.{FoundGap}
 use Rattle.hosts.specs.Survey.{Situation}
 use Rattle.rules.specs.declared.gaps.Prospect.{Prospect}
@@ -45,3 +45,9 @@ pub record FirstGap (u : Universe) (c : Config) (g : FoundGap) : Type 0 where
 abbrev pub TellsGaps : Universe → Config → Option FoundGap → Type 0
 TellsGaps u c None = GapFree u c
 TellsGaps u c (Some g) = FirstGap u c g
+
+-- the first gap is found
+pub record Finds (u : Universe) (c : Config) (r : Option FoundGap) : Type 0 where
+  pub value : r ≡ first_gap_in u c
+  pub law : TellsGaps u c r
+  pub whole : is_some r ≡ any_gap 256 u c

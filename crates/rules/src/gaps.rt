@@ -1,11 +1,9 @@
 // The gap finder: the first gap in a survey, and the first that a change or an unbind would leave.
-ghost use Rattle.std.specs.Prelude.{◌≡◌, not, ◌&&◌, is_some};
-ghost use Rattle.model.specs.declared.order.Order.TheVariants.{Change, Unbind};
-ghost use Rattle.model.specs.Orders.{result_of};
-ghost use Rattle.model.specs.Bounded.{any_gap, covered, gap_at};
+ghost use Rattle.std.specs.Prelude.{◌≡◌, not, ◌&&◌};
+ghost use Rattle.model.specs.Bounded.{covered, gap_at};
 ghost use Rattle.rules.specs.declared.ports.Role.TheVariants.{Provider, Requirer};
 ghost use Rattle.rules.specs.Ports.{now_has};
-ghost use Rattle.rules.specs.Finding.{TellsGaps, first_gap_in, first_gap_at, viewed};
+ghost use Rattle.rules.specs.Finding.{Finds, first_gap_at, foreseen, viewed};
 
 use crate::ports::{Role, has_port, ports};
 use hosts::survey::Survey;
@@ -22,7 +20,7 @@ pub struct FoundGap {
 // What is looked at: what stands, or what would stand after a change or an unbind. An enum and no closure, since clauses
 // speak of what is foreseen.
 #[derive(Clone, Copy)]
-enum Prospect {
+pub enum Prospect {
     Present,
     Changed { instance: u32, state: u8 },
     Unbound(Binding),
@@ -119,49 +117,15 @@ impl<S: Survey> View<'_, S> {
 
     // The first gap that there would be.
     fn first_gap(&self) -> Option<FoundGap>
-        ensures value { result ≡ first_gap_in (viewed S.situation self.now).universe (viewed S.situation self.now).config }
-        ensures law { TellsGaps (viewed S.situation self.now).universe (viewed S.situation self.now).config result }
-        ensures whole { is_some result ≡ any_gap 256 (viewed S.situation self.now).universe (viewed S.situation self.now).config }
+        ensures { Finds (viewed S.situation self.now).universe (viewed S.situation self.now).config result }
     {
         (0..256).find_map(|instance| self.first_gap_of(instance))
     }
 }
 
-// The first gap, by instance and then by port.
-pub fn find_gap<S: Survey>(survey: &S) -> Option<FoundGap>
-    ensures value { result ≡ first_gap_in (S.situation survey.now).universe (S.situation survey.now).config }
-    ensures law { TellsGaps (S.situation survey.now).universe (S.situation survey.now).config result }
-    ensures whole { is_some result ≡ any_gap 256 (S.situation survey.now).universe (S.situation survey.now).config }
+// The first gap of what is foreseen, by instance and then by port.
+pub fn find_gap<S: Survey>(survey: &S, prospect: Prospect) -> Option<FoundGap>
+    ensures { Finds (S.situation survey.now).universe (foreseen prospect (S.situation survey.now).config) result }
 {
-    View {
-        survey,
-        prospect: Prospect::Present,
-    }
-    .first_gap()
-}
-
-// The first gap that the change would leave.
-pub fn find_gap_after_change<S: Survey>(survey: &S, instance: u32, state: u8) -> Option<FoundGap>
-    ensures value { result ≡ first_gap_in (S.situation survey.now).universe (result_of (Change instance state) (S.situation survey.now).config) }
-    ensures law { TellsGaps (S.situation survey.now).universe (result_of (Change instance state) (S.situation survey.now).config) result }
-    ensures whole { is_some result ≡ any_gap 256 (S.situation survey.now).universe (result_of (Change instance state) (S.situation survey.now).config) }
-{
-    View {
-        survey,
-        prospect: Prospect::Changed { instance, state },
-    }
-    .first_gap()
-}
-
-// The first gap that the unbind would leave.
-pub fn find_gap_after_unbind<S: Survey>(survey: &S, binding: Binding) -> Option<FoundGap>
-    ensures value { result ≡ first_gap_in (S.situation survey.now).universe (result_of (Unbind binding) (S.situation survey.now).config) }
-    ensures law { TellsGaps (S.situation survey.now).universe (result_of (Unbind binding) (S.situation survey.now).config) result }
-    ensures whole { is_some result ≡ any_gap 256 (S.situation survey.now).universe (result_of (Unbind binding) (S.situation survey.now).config) }
-{
-    View {
-        survey,
-        prospect: Prospect::Unbound(binding),
-    }
-    .first_gap()
+    View { survey, prospect }.first_gap()
 }

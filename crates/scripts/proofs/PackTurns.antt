@@ -3,6 +3,9 @@ use Rattle.std.proofs.Common.{◌≡◌, ℕ, ◌+◌, ◌<◌, ◌≤◌, List,
 use Rattle.std.proofs.lemmas.List.{at_drop_more, at_drop_all}
 use Rattle.model.specs.declared.order.Order.{Order}
 use Rattle.lines.specs.declared.refusal.LineRefusal.{LineRefusal}
+use Rattle.console.specs.declared.failure.Failure.{Failure}
+use Rattle.console.specs.declared.failure.Failure.TheVariants.{Refused, Memory}
+use Rattle.console.specs.Told.{Told}
 use Rattle.scripts.specs.declared.PackFault.{PackFault}
 use Rattle.scripts.specs.Scripts.{after, line_of, line_bytes_of, packed_line, packed}
 use Rattle.scripts.proofs.ScriptLists.{after_append, after_ok, after_err}
@@ -40,6 +43,11 @@ module _ (before : List ℕ) (os : List Order) (i : ℕ) (all : Result (List ℕ
   pub packed_fault : (d : Order) (f : PackFault) → i < length os → Err f ≡ packed_line i (line_of (get_or os i d)) (Ok []) → Err f ≡ all
   packed_fault d f h told =
       sym (after_err before f) ∙ ap (after before) (sym (fault_then i (line_of (get_or os i d)) f (packed (i + 1) (drop (i + 1) os)) told)) ∙ packed_step d h
+
+  -- a failure at an order is the failure of the whole
+  pub packed_failed : {T : Type 0} (shown : T → List ℕ) (d : Order) (x : Failure PackFault) → i < length os → Told (λ (l : List ℕ). l) (λ e. e) (Err x) (packed_line i (line_of (get_or os i d)) (Ok [])) → Told shown (λ e. e) (Err x) all
+  packed_failed shown d (Refused f) h told = packed_fault d f h told
+  packed_failed shown d (Memory a) h told = tt
 
   -- behind the last order nothing is packed
   pub packed_end : length os ≤ i → Ok before ≡ all

@@ -1,9 +1,9 @@
 // Scripts as files and texts: what the commands `lines` and `pack` read, print and write.
 #![tactic(auto)]
 
-ghost use Rattle.std.specs.Prelude.{◌≡◌, ◌+◌, ◌^◌, ◌<◌, map, is_err, ok_or, option_to_list, IfOk, MatchResult, vec_items, string_bytes, [], Ok};
+ghost use Rattle.std.specs.Prelude.{◌≡◌, ◌+◌, ◌^◌, ◌<◌, map, is_err, ok_or, option_to_list, IfOk, MatchResult, vec_items, string_bytes, [], Ok, Some};
 ghost use Rattle.console.specs.Told.{Told, report};
-ghost use Rattle.scripts.specs.Scripts.{pack_text_of, refusal_text_of, line_text, lines_text, lines_refused};
+ghost use Rattle.scripts.specs.Scripts.{fault_text, pack_text_of, refusal_text_of, line_text, lines_text, lines_refused};
 ghost use Rattle.scripts.specs.Scripts.{word_of, script_lines_of, line_of, packed, packed_line, passed, line_orders, orders_of};
 
 use console::failure::Failure;
@@ -11,6 +11,7 @@ use lines::refusal::LineRefusal;
 use lines::{decode, encode};
 use model::order::Order;
 use std::alloc::{AllocError, Global};
+use std::fmt;
 use text::parse_order;
 
 // A script whose length is no multiple of four.
@@ -37,11 +38,20 @@ pub fn pack_text(alloc: Global, lines: usize) -> Result<String, AllocError>
     format!(in alloc; "{lines} lines\n")
 }
 
-// The text `refused N at PLACE`.
-pub fn refusal_text(alloc: Global, number: u8, place: usize) -> Result<String, AllocError>
-    ensures { IfOk result (λ s. string_bytes s ≡ refusal_text_of number place) }
+// A fault is shown as `refused N at PLACE`.
+impl fmt::Display for PackFault {
+    ghost output = { λ f. Some (fault_text f) };
+
+    fn fmt<W: fmt::Write>(&self, f: &mut fmt::Formatter<W>) -> fmt::Result {
+        write!(f, "refused {} at {}", self.refusal, self.place)
+    }
+}
+
+// The text of a fault, in a line of its own.
+pub fn refusal_text(alloc: Global, fault: PackFault) -> Result<String, AllocError>
+    ensures { IfOk result (λ s. string_bytes s ≡ refusal_text_of fault) }
 {
-    format!(in alloc; "refused {number} at {place}\n")
+    format!(in alloc; "{fault}\n")
 }
 
 // What is printed of one line.
@@ -54,7 +64,7 @@ fn line_report(
 {
     match order {
         Ok(order) => format!(in alloc; "{order}\n"),
-        Err(refusal) => refusal_text(alloc, refusal.number(), place),
+        Err(refusal) => refusal_text(alloc, PackFault { refusal, place }),
     }
 }
 
@@ -96,26 +106,21 @@ pub fn script_lines(alloc: Global, bytes: &[u8]) -> Result<Vec<u32>, Failure<Cut
 
 // The bytes of the line of an order, which stands at a place.
 #[tactic(auto, unfolding(crate::specs::Scripts::line_of))]
-fn pack_order(place: usize, order: Order) -> Result<[u8; 4], PackFault>
-    ensures { result ≡ packed_line place (line_of order) (Ok []) }
+fn pack_order(place: usize, order: Order) -> Result<[u8; 4], Failure<PackFault>>
+    ensures { Told (λ l. l) (λ e. e) result (packed_line place (line_of order) (Ok [])) }
 {
-    match encode(order) {
-        Ok(line) => Ok(line.to_be_bytes()),
-        Err(refusal) => Err(PackFault { refusal, place }),
-    }
+    let line = encode(order).map_err(|refusal| Failure::Refused(PackFault { refusal, place }))?;
+    Ok(line.to_be_bytes())
 }
 
 // The packed script of the orders, or the first order that has no line.
-#[tactic(auto, using(crate::proofs::PackTurns::packed_more, crate::proofs::PackTurns::packed_end))]
+#[tactic(auto, using(crate::proofs::PackTurns::packed_more, crate::proofs::PackTurns::packed_end, crate::proofs::PackTurns::packed_failed))]
 pub fn pack_orders(alloc: Global, orders: &[Order]) -> Result<Vec<u8>, Failure<PackFault>>
     ensures { Told vec_items (λ e. e) result (packed 0 orders.now) }
 {
     let mut bytes = Vec::new(alloc);
     for (place, order) in orders.iter().enumerate() {
-        match pack_order(place, *order) {
-            Ok(line) => bytes.extend_from_slice(&line)?,
-            Err(fault) => return Err(Failure::Refused(fault)),
-        }
+        bytes.extend_from_slice(&pack_order(place, *order)?)?;
     }
     Ok(bytes)
 }
@@ -136,10 +141,9 @@ fn parse_line(before: usize, line: &[u8]) -> Result<Option<Order>, NoOrder>
     if is_passed_over(line) {
         return Ok(None);
     }
-    match parse_order(line) {
-        Some(order) => Ok(Some(order)),
-        None => Err(NoOrder { line: before + 1 }),
-    }
+    parse_order(line)
+        .map(Some)
+        .ok_or(NoOrder { line: before + 1 })
 }
 
 // The orders of a text, or the first line that cannot be read.

@@ -11,7 +11,7 @@ use Rattle.universe.specs.Tables.{universe_of}
 use Rattle.hosts.specs.declared.refusal.Reason.{Reason}
 use Rattle.hosts.specs.declared.refusal.Reason.TheVariants.{Full}
 use Rattle.hosts.specs.Survey.{Situation, Lawful, instances_of, bindings_of}
-use Rattle.hosts.specs.Service.{Load}
+use Rattle.hosts.specs.declared.load.Load.{Load}
 use Rattle.hosts.specs.Offences.{offence, refused_if}
 use Rattle.hosts.specs.Answers.{illegal_or, full_test}
 use Rattle.table.specs.declared.table.Table.{Table}

@@ -10,7 +10,7 @@ ghost use Rattle.table.specs.Records.{Able, config_of};
 
 use crate::records::Records;
 use crate::row::Row;
-use crate::rows::{BLANK_ROW, close_at, keep_others, open_at};
+use crate::rows::{BLANK_ROW, keep_others};
 use model::binding::Binding;
 use model::order::Order;
 use model::pair::Pair;
@@ -76,7 +76,9 @@ impl Records {
         }
         let rank = Row::of(binding).rank();
         let place = self.place_of(rank);
-        place < self.len && self.rows[place].rank() == rank
+        self.used_rows()
+            .get(place)
+            .is_some_and(|row| row.rank() == rank)
     }
 
     // Whether some binding has this instance as its provider.
@@ -115,7 +117,7 @@ impl Records {
         ensures { config_of self.new ≡ result_of (Bind (binding_of row)) (config_of self.old) }
     {
         let place = self.place_of(row.rank());
-        open_at(&mut self.rows, place, self.len);
+        self.rows.copy_within(place..self.len, place + 1);
         self.rows[place] = row;
         self.len += 1;
     }
@@ -126,7 +128,7 @@ impl Records {
         ensures { config_of self.new ≡ result_of (Unbind (binding_of row)) (config_of self.old) }
     {
         let place = self.place_of(row.rank());
-        close_at(&mut self.rows, place, self.len);
+        self.rows.copy_within(place + 1..self.len, place);
         self.len -= 1;
     }
 

@@ -8,17 +8,17 @@ use std::fmt;
 #[derive(Clone, Copy, PartialEq, Eq, Debug)]
 pub enum UniverseRefusal {
     // Bytes are missing, or left over at the end.
-    Length,
+    Length = 1,
     // A count of types, ports or states is out of range.
-    Count,
+    Count = 2,
     // A bit that has to be zero is set.
-    ZeroBit,
+    ZeroBit = 3,
     // A port is not below the port count.
-    Port,
+    Port = 4,
     // A successor is the state itself, or not below the state count.
-    Successor,
+    Successor = 5,
     // State 0 requires a port.
-    InitialState,
+    InitialState = 6,
 }
 
 impl UniverseRefusal {
@@ -26,14 +26,7 @@ impl UniverseRefusal {
     pub fn number(self) -> u8
         ensures { result ≡ universe_number self }
     {
-        match self {
-            UniverseRefusal::Length => 1,
-            UniverseRefusal::Count => 2,
-            UniverseRefusal::ZeroBit => 3,
-            UniverseRefusal::Port => 4,
-            UniverseRefusal::Successor => 5,
-            UniverseRefusal::InitialState => 6,
-        }
+        self as u8
     }
 }
 
