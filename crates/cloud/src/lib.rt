@@ -5,7 +5,7 @@ ghost use Rattle.std.specs.Prelude.{◌≡◌, min};
 ghost use Rattle.std.proofs.Common.{lit≤};
 ghost use Rattle.model.specs.declared.order.Order.TheVariants.{Create, Bind, Change, Unbind, Delete};
 ghost use Rattle.model.specs.Config.{empty};
-ghost use Rattle.universe.specs.Tables.{universe_of};
+ghost use Rattle.universe.specs.Held.{universe_in};
 ghost use Rattle.hosts.specs.Answers.{Gives};
 ghost use Rattle.table.specs.Table.{lawful_of};
 ghost use Rattle.cloud.specs.Cloud.{Takes, cloud_of, cloud_service, cloud_situation};
@@ -34,7 +34,7 @@ fn at_bottom(reason: Reason) -> Refusal
 impl Cloud {
     // An empty cloud of the universe. Limits above 256 and 2048 and delays above 8 count as these.
     pub fn open(universe: Universe, limits: Limits, delay: u32) -> Self
-        ensures { cloud_of result ≡ record { held = record { situation = record { universe = universe_of universe.tables; config = empty }; limits = record { instances = min limits.instances 256; bindings = min limits.bindings 2048 } }; waits = min delay 8; delay = min delay 8 } }
+        ensures { cloud_of result ≡ record { held = record { situation = record { universe = universe_in universe; config = empty }; limits = record { instances = min limits.instances 256; bindings = min limits.bindings 2048 } }; waits = min delay 8; delay = min delay 8 } }
     {
         let delay = delay.min(8);
         Cloud {
@@ -109,6 +109,7 @@ impl Host for Cloud {
         0
     }
 
+    // The five orders, each with its clauses; their work is one, `take`.
     fn create(&mut self, instance: u32, kind: u32) -> Result<(), Refusal>
         ensures answered { Gives cloud_situation cloud_service (Create instance kind) self.old self.new result }
         ensures taken { Takes (Create instance kind) (cloud_of self.old) (cloud_of self.new) result }

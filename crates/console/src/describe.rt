@@ -3,7 +3,7 @@ ghost use Rattle.std.specs.Iterator.{Drains, IsFinite};
 ghost use Rattle.console.specs.Told.{Told, report};
 ghost use Rattle.std.specs.Prelude.{◌≡◌, ℕ, List, codes, is_err, IfOk, string_bytes, OnOk};
 ghost use Rattle.universe.specs.Reading.{tables_read};
-ghost use Rattle.universe.specs.Tables.{universe_of};
+ghost use Rattle.universe.specs.Held.{universe_in};
 ghost use Rattle.console.specs.Described.{counts_line_of, listed_with, report_of, labelled_list, list_of, set_text_of, state_line_of, type_line_of, type_lines_of, universe_text_of};
 
 use crate::failure::Failure;
@@ -44,7 +44,7 @@ fn set_texts(
     kind: u32,
     state: u32,
 ) -> Result<(String, String, String), AllocError>
-    ensures { let u = universe_of universe.now.tables in IfOk result (λ s. (string_bytes s.0 ≡ set_text_of (codes "provides") (u.provides kind state) u.ports) × (string_bytes s.1 ≡ set_text_of (codes "requires") (u.requires kind state) u.ports) × (string_bytes s.2 ≡ set_text_of (codes "next") (u.next kind state) (u.states kind))) }
+    ensures { let u = universe_in universe.now in IfOk result (λ s. (string_bytes s.0 ≡ set_text_of (codes "provides") (u.provides kind state) u.ports) × (string_bytes s.1 ≡ set_text_of (codes "requires") (u.requires kind state) u.ports) × (string_bytes s.2 ≡ set_text_of (codes "next") (u.next kind state) (u.states kind))) }
 {
     let ports = 0..u32::from(universe.ports());
     let provided = ports.filter(|port| universe.is_provided(kind, state, *port));
@@ -65,7 +65,7 @@ fn state_line(
     kind: u32,
     state: u32,
 ) -> Result<String, AllocError>
-    ensures { IfOk result (λ s. string_bytes s ≡ state_line_of (universe_of universe.now.tables) kind state) }
+    ensures { IfOk result (λ s. string_bytes s ≡ state_line_of (universe_in universe.now) kind state) }
 {
     let (provided, required, next) = set_texts(alloc, universe, kind, state)?;
     format!(in alloc; "state {kind}/{state}: {provided}, {required}, {next}\n")
@@ -80,7 +80,7 @@ fn type_line(alloc: Global, kind: u32, states: u8) -> Result<String, AllocError>
 
 // The line of one type, and those of its states.
 fn type_lines(alloc: Global, universe: &Universe, kind: u32) -> Result<String, AllocError>
-    ensures { IfOk result (λ s. string_bytes s ≡ type_lines_of (universe_of universe.now.tables) kind) }
+    ensures { IfOk result (λ s. string_bytes s ≡ type_lines_of (universe_in universe.now) kind) }
 {
     let mut text = type_line(alloc, kind, universe.states(kind))?;
     for state in 0..u32::from(universe.states(kind)) {
@@ -98,7 +98,7 @@ fn counts_line(alloc: Global, types: u8, ports: u8) -> Result<String, AllocError
 
 // What is printed of a universe: its counts, its types and their states.
 pub fn universe_text(alloc: Global, universe: &Universe) -> Result<String, AllocError>
-    ensures { IfOk result (λ s. string_bytes s ≡ universe_text_of (universe_of universe.now.tables)) }
+    ensures { IfOk result (λ s. string_bytes s ≡ universe_text_of (universe_in universe.now)) }
 {
     let mut text = counts_line(alloc, universe.types(), universe.ports())?;
     for kind in 0..u32::from(universe.types()) {

@@ -6,4 +6,3 @@ use Rattle.hosts.specs.declared.load.Load.{Load}
 abbrev pub load_text : Load → List ℕ
 load_text l =
     codes "(waits " ++ (decimal l.waits ++ (codes ", creations " ++ (decimal l.creations ++ (codes ", bindings " ++ (decimal l.bindings ++ codes ")")))))
-

@@ -33,8 +33,7 @@ pub trait Host: Survey {
     fn height(&self) -> u8
         ensures { result ≡ (service self.now).profile.height };
 
-    // The five orders. Each is a method with a contract of its own, and not one method over `Order`, since the interface
-    // names each; `give` below takes any.
+    // The five orders. A rule of the project gives a host a method for each, with its contract; `give` below takes any.
     fn create(&mut self, instance: u32, kind: u32) -> Result<(), Refusal>
         ensures answered { Gives Self.Survey.situation service (Create instance kind) self.old self.new result };
 

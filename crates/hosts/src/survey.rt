@@ -1,6 +1,6 @@
 // A survey: a universe and what stands in it, told by questions that alter nothing.
 ghost use Rattle.std.specs.Prelude.{◌≡◌};
-ghost use Rattle.universe.specs.Tables.{universe_of};
+ghost use Rattle.universe.specs.Held.{universe_in};
 ghost use Rattle.hosts.specs.Survey.{Lawful, Situation, bindings_of, instances_of};
 
 use model::binding::Binding;
@@ -16,7 +16,7 @@ pub trait Survey {
 
     // The universe.
     fn universe(&self) -> &Universe
-        ensures { universe_of result.now.tables ≡ (situation self.now).universe };
+        ensures { universe_in result.now ≡ (situation self.now).universe };
 
     // What stands under a number, which may be nothing.
     fn at(&self, instance: u32) -> Option<Pair>

@@ -34,9 +34,12 @@ fn does_stop<B: Host>(host: &B, order: Order) -> bool
 {
     match order {
         Order::Change { instance, state } => {
-            // `as`: a state without offence is at most 7.
             is_admitted(host, change_offence(host, instance, state))
-                && find_gap(host, Prospect::Changed { instance, state: state as u8 }).is_some()
+                && {
+                    // `as`: a state without offence is at most 7.
+                    let state = state as u8;
+                    find_gap(host, Prospect::Changed { instance, state }).is_some()
+                }
         }
         Order::Unbind(binding) => {
             is_admitted(host, unbind_offence(host, binding))
@@ -137,6 +140,7 @@ impl<B: Host> Host for Verifying<B> {
         self.own_height()
     }
 
+    // The five orders, each with its clauses; their work is one, `take`.
     fn create(&mut self, instance: u32, kind: u32) -> Result<(), Refusal>
         ensures answered { Gives B.Survey.situation (λ h. watched (B.Host.service h)) (Create instance kind) self.old.below self.new.below result }
         ensures relayed { Relays B.Survey.situation B.Host.service (Create instance kind) self.old.below self.new.below result }

@@ -6,7 +6,8 @@ use crate::refusal::LineRefusal;
 use model::binding::Binding;
 use model::order::Order;
 
-// The operation numbers. They stay numbers, since the decoder matches them with guards on what must be zero.
+// The operation numbers. They stay numbers: a rule of the project has the decoder match them, with guards on what must
+// be zero.
 const CREATE: u32 = 1;
 
 const BIND: u32 = 2;
@@ -137,13 +138,15 @@ impl TryFrom<Fields> for u32 {
         if !fields.fits() {
             return Err(LineRefusal::NotALine);
         }
-        Ok((fields.operation << 29)
-            | (fields.first << 21)
-            | (fields.second << 13)
-            | (fields.port << 8)
-            | (fields.kind << 4)
-            | (fields.state << 1)
-            | fields.spare)
+        Ok(
+            (fields.operation << 29)
+                | (fields.first << 21)
+                | (fields.second << 13)
+                | (fields.port << 8)
+                | (fields.kind << 4)
+                | (fields.state << 1)
+                | fields.spare,
+        )
     }
 }
 

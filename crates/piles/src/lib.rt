@@ -3,7 +3,7 @@
 
 ghost use Rattle.std.specs.Prelude.{◌≡◌, false, true, IfOk, string_bytes};
 ghost use Rattle.universe.specs.Reading.{tables_read};
-ghost use Rattle.universe.specs.Tables.{universe_of};
+ghost use Rattle.universe.specs.Held.{universe_in};
 ghost use Rattle.cloud.specs.Cloud.{cloud_of};
 ghost use Rattle.console.specs.Told.{IfTold};
 ghost use Rattle.piles.specs.Piles.{CommandTold, ReportedFrom, fresh, fresh_cloud_of};
@@ -21,7 +21,7 @@ use universe::held::Universe;
 
 // An empty cloud of the universe, with the limits and the delay that are chosen.
 fn fresh_cloud(universe: Universe, options: HostOptions) -> Cloud
-    ensures { cloud_of result ≡ fresh_cloud_of (universe_of universe.tables) options }
+    ensures { cloud_of result ≡ fresh_cloud_of (universe_in universe) options }
 {
     let limits = Limits {
         instances: options.instances,
@@ -37,7 +37,7 @@ pub fn pile_report(
     options: HostOptions,
     orders: &[Order],
 ) -> Result<String, AllocError>
-    ensures { IfOk result (λ s. ReportedFrom orders.now (fresh (universe_of universe.tables) options) (string_bytes s)) }
+    ensures { IfOk result (λ s. ReportedFrom orders.now (fresh (universe_in universe) options) (string_bytes s)) }
 {
     let mut cloud = fresh_cloud(universe, options);
     match options.layers {

@@ -4,7 +4,7 @@
 use std::fs;
 
 // Prints the name of a table, and of each row of its file the label and what the function shows of the input.
-// No clause: none can speak of what a file gives or a stream takes.
+// No `ensures`: none can speak of what a file gives or a stream takes.
 pub fn show_table<F: Fn(&str) -> anyhow::Result<()>>(
     rt: &HostRuntime,
     name: &str,

@@ -1,7 +1,7 @@
 // What states do with a port.
 ghost use Rattle.std.specs.Prelude.{◌≡◌};
 ghost use Rattle.model.specs.Search.{any};
-ghost use Rattle.universe.specs.Tables.{universe_of};
+ghost use Rattle.universe.specs.Held.{universe_in};
 ghost use Rattle.rules.specs.Ports.{ever_has, holds_port};
 
 use hosts::survey::Survey;
@@ -17,7 +17,7 @@ pub enum Role {
 
 // Whether the state of the type has the port in that role.
 pub fn has_port(universe: &Universe, role: Role, kind: u32, state: u32, port: u32) -> bool
-    ensures { result ≡ holds_port (universe_of universe.now.tables) role kind state port }
+    ensures { result ≡ holds_port (universe_in universe.now) role kind state port }
 {
     match role {
         Role::Provider => universe.is_provided(kind, state, port),
@@ -27,7 +27,7 @@ pub fn has_port(universe: &Universe, role: Role, kind: u32, state: u32, port: u3
 
 // Whether some state of the type has the port in that role.
 fn is_ever_in(universe: &Universe, role: Role, kind: u32, port: u32) -> bool
-    ensures { result ≡ any (λ q. holds_port (universe_of universe.now.tables) role kind q port) ((universe_of universe.now.tables).states kind) }
+    ensures { result ≡ any (λ q. holds_port (universe_in universe.now) role kind q port) ((universe_in universe.now).states kind) }
 {
     (0..u32::from(universe.states(kind))).any(|state| has_port(universe, role, kind, state, port))
 }

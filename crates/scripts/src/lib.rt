@@ -1,9 +1,9 @@
 // Scripts as files and texts: what the commands `lines` and `pack` read, print and write.
 #![tactic(auto)]
 
-ghost use Rattle.std.specs.Prelude.{◌≡◌, ◌+◌, ◌^◌, ◌<◌, map, is_err, ok_or, option_to_list, IfOk, MatchResult, vec_items, string_bytes, [], Ok, Some};
+ghost use Rattle.std.specs.Prelude.{◌≡◌, ◌+◌, ◌^◌, ◌<◌, map, is_err, ok_or, option_to_list, IfOk, MatchResult, vec_items, string_bytes, [], Ok};
 ghost use Rattle.console.specs.Told.{Told, report};
-ghost use Rattle.scripts.specs.Scripts.{fault_text, pack_text_of, refusal_text_of, line_text, lines_text, lines_refused};
+ghost use Rattle.scripts.specs.Scripts.{pack_text_of, refusal_text_of, line_text, lines_text, lines_refused};
 ghost use Rattle.scripts.specs.Scripts.{word_of, script_lines_of, line_of, packed, packed_line, passed, line_orders, orders_of};
 
 use console::failure::Failure;
@@ -11,7 +11,6 @@ use lines::refusal::LineRefusal;
 use lines::{decode, encode};
 use model::order::Order;
 use std::alloc::{AllocError, Global};
-use std::fmt;
 use text::parse_order;
 
 // A script whose length is no multiple of four.
@@ -38,20 +37,11 @@ pub fn pack_text(alloc: Global, lines: usize) -> Result<String, AllocError>
     format!(in alloc; "{lines} lines\n")
 }
 
-// A fault is shown as `refused N at PLACE`.
-impl fmt::Display for PackFault {
-    ghost output = { λ f. Some (fault_text f) };
-
-    fn fmt<W: fmt::Write>(&self, f: &mut fmt::Formatter<W>) -> fmt::Result {
-        write!(f, "refused {} at {}", self.refusal, self.place)
-    }
-}
-
-// The text of a fault, in a line of its own.
-pub fn refusal_text(alloc: Global, fault: PackFault) -> Result<String, AllocError>
-    ensures { IfOk result (λ s. string_bytes s ≡ refusal_text_of fault) }
+// The text `refused N at PLACE`, of any number.
+pub fn refusal_text(alloc: Global, number: u8, place: usize) -> Result<String, AllocError>
+    ensures { IfOk result (λ s. string_bytes s ≡ refusal_text_of number place) }
 {
-    format!(in alloc; "{fault}\n")
+    format!(in alloc; "refused {number} at {place}\n")
 }
 
 // What is printed of one line.
@@ -64,7 +54,7 @@ fn line_report(
 {
     match order {
         Ok(order) => format!(in alloc; "{order}\n"),
-        Err(refusal) => refusal_text(alloc, PackFault { refusal, place }),
+        Err(refusal) => refusal_text(alloc, refusal.number(), place),
     }
 }
 

@@ -1,9 +1,10 @@
 -- What ordered rows hold, and what a search among them tells. Assumes nothing.
-use Rattle.std.proofs.Common.{◌≡◌, ℕ, zero, suc, ◌+◌, ◌*◌, ◌<◌, ◌≤◌, Bool, true, false, ◌&&◌, ◌||◌, eqb, ltb, List, length, get_or, Decides, Option, sym, refl, ap, ◌∙◌, subst, inl, inr, arith}
+use Rattle.std.proofs.Common.{◌≡◌, ℕ, zero, suc, ◌+◌, ◌*◌, ◌<◌, ◌≤◌, Bool, true, false, ◌&&◌, ◌||◌, eqb, ltb, List, length, take, get_or, Decides, Option, Some, None, MatchOption, Bor, sym, refl, ap, ◌∙◌, subst, inl, inr, arith}
 use mathlib.Core.Bool.{or-false}
 use Rattle.std.proofs.lemmas.Bool.{and_from, and_parts, cases_order, eq-eqb, eqb-true, lt-ltb, ltb-true, or_right}
 use Rattle.std.proofs.lemmas.Bool.Decides.{same_from_decides}
-use Rattle.std.proofs.lemmas.List.{get_or_default}
+use Rattle.std.specs.Slice.{IsItemAt}
+use Rattle.std.proofs.lemmas.List.{get_or-take, get_or_default, length-take-le}
 use Rattle.model.specs.declared.binding.Binding.{Binding}
 use Rattle.model.specs.declared.pair.Pair.{Pair}
 use Rattle.model.specs.Search.{any}
@@ -24,6 +25,18 @@ binding p x y = record { port = p; provider = x; requirer = y }
 -- a row that was read
 pub read : (xs : List Row) (i : ℕ) (b : Row) → i < length xs → b ≡ get_or xs i b → b ≡ row xs i
 read xs i b l e = e ∙ get_or_default xs i b blank l
+
+-- a test of the row at a place among the first n, if there is one
+pub tested : (xs : List Row) (n r : ℕ) (p : Row → Bool) (o : Option (Bor Row)) (a : Bool) → n ≤ length xs → IsItemAt (take n xs) r o
+    → MatchOption o (a ≡ false) (λ x. a ≡ p x.now) → a ≡ (ltb r n && p (row xs r))
+tested xs n r p None a room at told =
+    let there : false ≡ ltb r n = at.0 ∙ ap (ltb r) (length-take-le n xs room) in
+    rw (← there) told
+tested xs n r p (Some x) a room at told =
+    let there : true ≡ ltb r n = at.0 ∙ ap (ltb r) (length-take-le n xs room) in
+    let lr : r < n = ltb-true r n (sym there) in
+    let same : x.now ≡ row xs r = at.1 ∙ get_or-take n xs r x.now lr ∙ get_or_default xs r x.now blank (omega (arith, lr, room)) in
+    rw (← there) (told ∙ ap p same)
 
 pub joins_tells : (b : Row) (p x y : ℕ) → Decides (joins b p x y) (binding_of b ≡ binding p x y)
 joins_tells b p x y =

@@ -10,7 +10,7 @@ use Rattle.table.specs.declared.row.Row.{Row}
 abbrev pub binding_of : Row → Binding
 binding_of b = record { port = b.port; provider = b.provider; requirer = b.requirer }
 
--- what the rows hold behind their end
+-- what is read where there is no row
 abbrev pub blank : Row
 blank = record { provider = 0; requirer = 0; port = 0; in_range = (lit< tt, lit< tt, lit< tt) }
 

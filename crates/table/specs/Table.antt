@@ -7,7 +7,7 @@ use Rattle.universe.proofs.Sounds.{sound}
 use Rattle.model.specs.Orders.{result_of}
 use Rattle.model.proofs.Searches.{any_some}
 use Rattle.model.proofs.Results.{same_true}
-use Rattle.universe.specs.Tables.{universe_of}
+use Rattle.universe.specs.Held.{universe_in}
 use Rattle.hosts.specs.declared.refusal.Reason.{Reason}
 use Rattle.hosts.specs.declared.refusal.Reason.TheVariants.{Full}
 use Rattle.hosts.specs.Survey.{Situation, Lawful, instances_of, bindings_of}
@@ -26,7 +26,7 @@ pub record Held : Type 0 where
 
 -- the universe and the configuration of a table
 abbrev pub situation_of : Table → Situation
-situation_of t = record { universe = universe_of t.universe.tables; config = config_of t.records }
+situation_of t = record { universe = universe_in t.universe; config = config_of t.records }
 
 abbrev pub held_of : Table → Held
 held_of t = record { situation = situation_of t; limits = t.limits }

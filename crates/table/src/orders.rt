@@ -1,7 +1,7 @@
 // The table is a survey, and takes the orders that no rule refuses.
 ghost use Rattle.std.specs.Prelude.{◌≡◌, min, None};
 ghost use Rattle.model.specs.Config.{empty};
-ghost use Rattle.universe.specs.Tables.{universe_of};
+ghost use Rattle.universe.specs.Held.{universe_in};
 ghost use Rattle.hosts.specs.Offences.{delete_offence_of, offence as offence_of};
 ghost use Rattle.hosts.specs.Answers.{full_test};
 ghost use Rattle.table.specs.Table.{applied, held_of, lawful_of, load_of, situation_of, table_rule, told};
@@ -46,7 +46,7 @@ impl Survey for Table {
 impl Table {
     // An empty table of the universe, with these limits; larger ones count as the largest, 256 and 2048.
     pub fn open(universe: Universe, limits: Limits) -> Self
-        ensures { held_of result ≡ record { situation = record { universe = universe_of universe.tables; config = empty }; limits = record { instances = min limits.instances 256; bindings = min limits.bindings 2048 } } }
+        ensures { held_of result ≡ record { situation = record { universe = universe_in universe; config = empty }; limits = record { instances = min limits.instances 256; bindings = min limits.bindings 2048 } } }
     {
         let limits = Limits {
             instances: limits.instances.min(256),
@@ -113,15 +113,18 @@ impl Table {
         }
     }
 
-    // The rule that refuses the order: its first offence, or that the limits leave no room for it.
+    // Lets the order pass, or tells why not: its first offence, or that the limits leave no room for it.
     #[tactic(auto, unfolding(crate::specs::Table::table_rule))]
-    fn rule(&self, order: Order) -> Option<Reason>
-        ensures { result ≡ table_rule order (held_of self.now) }
+    fn permit(&self, order: Order) -> Result<(), Reason>
+        ensures { result ≡ told (table_rule order (held_of self.now)) }
     {
-        match self.offence(order) {
-            Some(offence) => Some(Reason::Illegal(offence)),
-            None => self.is_full(order).then_some(Reason::Full),
+        if let Some(offence) = self.offence(order) {
+            return Err(Reason::Illegal(offence));
         }
+        if self.is_full(order) {
+            return Err(Reason::Full);
+        }
+        Ok(())
     }
 
     // The work of an order that no rule refuses.
@@ -137,9 +140,7 @@ impl Table {
         ensures answer { result ≡ told (table_rule order (held_of self.old)) }
         ensures held { held_of self.new ≡ applied order (table_rule order (held_of self.old)) (held_of self.old) }
     {
-        if let Some(reason) = self.rule(order) {
-            return Err(reason);
-        }
+        self.permit(order)?;
         self.perform(order);
         Ok(())
     }

@@ -4,8 +4,8 @@ ghost use Rattle.table.specs.Fit.{Fit};
 use crate::row::Row;
 use model::pair::Pair;
 
-// The first `len` rows are in use, and `count` instances stand. The table has no heap memory, so its arrays are as
-// long as they may get, with their numbers beside them.
+// The first `len` rows are in use, and `count` instances stand. By a rule of the project the table has no heap memory, so
+// its arrays are as long as they may get; and no order may cost a walk over all slots, so the count is kept beside them.
 #[derive(Drop)]
 pub struct Records {
     pub(crate) slots: [Option<Pair>; 256],

@@ -5,7 +5,7 @@ ghost use Rattle.table.specs.Rows.{binding_of, rank as rank_of, Closed, Kept, Op
 use crate::row::Row;
 use model::binding::Binding;
 
-// What the rows hold behind their end.
+// What each row holds at first.
 pub(crate) const BLANK_ROW: Row = Row {
     provider: 0,
     requirer: 0,
@@ -13,7 +13,8 @@ pub(crate) const BLANK_ROW: Row = Row {
 };
 
 impl Row {
-    // The row of a binding whose numbers are in range; `TryFrom` would have an error where none can come.
+    // The row of a binding whose numbers are in range. With `TryFrom` the work of an order would have an error that cannot
+    // come.
     pub(crate) fn of(binding: Binding) -> Row
         requires { (binding.port < 32) × ((binding.provider < 256) × (binding.requirer < 256)) }
         ensures { binding_of result ≡ binding }
@@ -48,8 +49,8 @@ impl Row {
     }
 }
 
-// The functions below take an array with the number of its rows in use: `&mut self.rows[..self.len]` cannot be lent yet
-// by a struct with a ghost field (the borrow checker has no rule for it).
+// The two moves are one call of the library each. In `bind` and `unbind` themselves, as tried, their proofs gain as many
+// lines as the code loses.
 
 // Moves the rows from `at` on up by one place.
 #[tactic(auto, using(crate::proofs::RowTurns::opened_of))]
@@ -72,7 +73,8 @@ pub(crate) fn close_at(rows: &mut [Row], at: usize, len: usize)
 }
 
 // Leaves out those of the first `len` rows whose requirer is the instance, and answers how many are left at the front.
-// Only a `Vec` has `retain`, so the places are counted here.
+// Only a `Vec` has `retain`, so the places are counted here. It takes the array and the number, since
+// `&mut self.rows[..self.len]` cannot be lent yet by a struct with a ghost field (the borrow checker has no rule for it).
 pub(crate) fn keep_others(rows: &mut [Row], len: usize, instance: u8) -> usize
     requires in_bounds { len ≤ length rows.old }
     requires ordered { Ordered rows.old len }

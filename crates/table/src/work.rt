@@ -10,7 +10,7 @@ ghost use Rattle.table.specs.Records.{Able, config_of};
 
 use crate::records::Records;
 use crate::row::Row;
-use crate::rows::{BLANK_ROW, keep_others};
+use crate::rows::{BLANK_ROW, close_at, keep_others, open_at};
 use model::binding::Binding;
 use model::order::Order;
 use model::pair::Pair;
@@ -59,8 +59,7 @@ impl Records {
         &self.rows[..self.len]
     }
 
-    // Where a row of this rank stands, or would stand. Whether it stands there is tested below by place: through `get` and
-    // `is_some_and` the proof did not close.
+    // Where a row of this rank stands, or would stand.
     fn place_of(&self, rank: u32) -> usize
         ensures { Place self.now.rows self.now.len rank result }
     {
@@ -89,7 +88,9 @@ impl Records {
             return false;
         }
         let place = self.place_of(instance * 8192);
-        place < self.len && self.rows[place].starts_at(instance)
+        self.used_rows()
+            .get(place)
+            .is_some_and(|row| row.starts_at(instance))
     }
 
     // An instance of the type, in its state 0.
@@ -117,7 +118,7 @@ impl Records {
         ensures { config_of self.new ≡ result_of (Bind (binding_of row)) (config_of self.old) }
     {
         let place = self.place_of(row.rank());
-        self.rows.copy_within(place..self.len, place + 1);
+        open_at(&mut self.rows, place, self.len);
         self.rows[place] = row;
         self.len += 1;
     }
@@ -128,7 +129,7 @@ impl Records {
         ensures { config_of self.new ≡ result_of (Unbind (binding_of row)) (config_of self.old) }
     {
         let place = self.place_of(row.rank());
-        self.rows.copy_within(place + 1..self.len, place);
+        close_at(&mut self.rows, place, self.len);
         self.len -= 1;
     }
 

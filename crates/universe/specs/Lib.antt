@@ -3,3 +3,4 @@ pub mod Tables
 pub mod Refusals
 pub mod Reading
 pub mod Packed
+pub mod Held

@@ -10,7 +10,7 @@ use Rattle.model.specs.Universe.{Universe, Valid}
 abbrev pub blank_state : State
 blank_state = record { provided = 0; required = 0; successors = 0 }
 
--- what the tables hold behind their end
+-- what is read where there is no type
 abbrev pub blank_kind : Kind
 blank_kind = record { count = 0; states = [] }
 

@@ -3,8 +3,9 @@ ghost use Rattle.std.specs.Prelude.{◌≡◌};
 ghost use Rattle.universe.specs.Packed.{Packs};
 ghost use Rattle.universe.specs.Reading.{Splits, answer_of, held_after, kind_read, kind_size, tables_read};
 
+use crate::entries::{BLANK_STATE, UNUSED_KIND};
 use crate::groups::{read_count, read_header, read_state};
-use crate::held::{BLANK_STATE, UNUSED_KIND, Universe};
+use crate::held::Universe;
 use crate::refusal::UniverseRefusal;
 use crate::tables::{Kind, Tables};
 
@@ -42,7 +43,8 @@ fn read_tables(bytes: &[u8]) -> Result<Tables, UniverseRefusal>
     })
 }
 
-// Reads the universe that the file packs into the place; a file that is refused leaves the place as it was.
+// Reads the universe that the file packs into the place; a file that is refused leaves the place as it was. By a rule of
+// the project the place is the caller's, so this answers no universe.
 #[tactic(auto, using(crate::proofs::Accepted::accepted, crate::proofs::Accepted::refused, crate::proofs::Checked::read_sound))]
 pub fn read(bytes: &[u8], place: &mut Universe) -> Result<(), UniverseRefusal>
     ensures answer { result ≡ answer_of (tables_read bytes.now) }

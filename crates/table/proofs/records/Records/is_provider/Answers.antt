@@ -1,7 +1,6 @@
-use Rattle.std.proofs.Common.{ap, arith, rules}
-use Rattle.table.specs.declared.row.Row.{Row}
+use Rattle.std.proofs.Common.{◌≤◌, eqb, length, arith, rules}
 use Rattle.table.specs.Fit.{standing}
-use Rattle.table.proofs.RowSearch.{provider_beyond, provider_found, read}
+use Rattle.table.proofs.RowSearch.{provider_beyond, provider_found, tested}
 use Rattle.table.proofs.records.Records.is_provider.Goals as goal
 
 pub returns-then-instance-gt255 : goal.returns-then-instance-gt255
@@ -9,13 +8,9 @@ returns-then-instance-gt255 c =
     let t = c.args.self.now in
     provider_beyond t.rows t.len t.fit.ordered (standing t.slots) c.args.instance c.if-instance-gt255.true
 
-pub returns-then-place-self : goal.returns-then-place-self
-returns-then-place-self c =
+pub returns : goal.returns
+returns c =
     let t = c.args.self.now in
-    let same = read t.rows c.place_of-place.result c.index-self-place.result (omega (arith, t.fit.room, t.fit.most)) c.index-self-place.is in
-    provider_found t.rows t.len t.fit.ordered (standing t.slots) c.args.instance c.place_of-place.result c.place_of-place.ensures _ (search (rules, ap (λ (b : Row). b.provider) same))
-
-pub returns-else-place-self : goal.returns-else-place-self
-returns-else-place-self c =
-    let t = c.args.self.now in
-    provider_found t.rows t.len t.fit.ordered (standing t.slots) c.args.instance c.place_of-place.result c.place_of-place.ensures _ (search rules)
+    let room : t.len ≤ length t.rows = omega (arith, t.fit.most, t.fit.room) in
+    provider_found t.rows t.len t.fit.ordered (standing t.slots) c.args.instance c.place_of-place.result c.place_of-place.ensures
+    _ (tested t.rows t.len _ (λ b. eqb b.provider c.args.instance) c.get.result _ room (rw c.used_rows.ensures at c.get.ensures.lookup) (search rules))
