@@ -79,6 +79,7 @@ fn type_line(alloc: Global, kind: u32, states: u8) -> Result<String, AllocError>
 }
 
 // The line of one type, and those of its states.
+#[tactic(auto, using(crate::proofs::Rows::rows_none, crate::proofs::Rows::rows_more))]
 fn type_lines(alloc: Global, universe: &Universe, kind: u32) -> Result<String, AllocError>
     ensures { IfOk result (λ s. string_bytes s ≡ type_lines_of (universe_in universe.now) kind) }
 {
@@ -97,6 +98,7 @@ fn counts_line(alloc: Global, types: u8, ports: u8) -> Result<String, AllocError
 }
 
 // What is printed of a universe: its counts, its types and their states.
+#[tactic(auto, using(crate::proofs::Rows::rows_none, crate::proofs::Rows::rows_more))]
 pub fn universe_text(alloc: Global, universe: &Universe) -> Result<String, AllocError>
     ensures { IfOk result (λ s. string_bytes s ≡ universe_text_of (universe_in universe.now)) }
 {

@@ -1,7 +1,6 @@
 -- An order has no offence exactly if it is legal and in range, and then keeps the law of surveys. Assumes nothing.
 use Rattle.std.proofs.Common.{◌≡◌, ℕ, ◌<◌, ◌≤◌, Bool, true, false, not, ◌||◌, eqb, ltb, leb, ◌≢◌, None, Option, sym, refl, ap, ◌∙◌, inl, inr, arith}
-use mathlib.Core.Bool.{false≢true}
-use Rattle.std.proofs.lemmas.Bool.{and_from, both_ways, cases_eq, cases_lt, eqb-false, le-ltb, leb-false, lt-leb, ltb-false, ne_eqb, not-false, not_from_true, or_from, or_parts}
+use Rattle.std.proofs.lemmas.Bool.{and_from, both_ways, cases_eq, eqb-false, le-ltb, leb-false, lt-leb, ltb-false, ne_eqb, not-false, not_from_true, or_from, or_parts}
 use Rattle.model.specs.declared.binding.Binding.{Binding}
 use Rattle.model.specs.declared.pair.Pair.{Pair}
 use Rattle.model.specs.declared.order.Order.{Order}
@@ -42,14 +41,6 @@ module _ (s : Situation) (law : Lawful s) where
 
   abbrev u : Universe
   u = s.universe
-
-  -- an instance that stands is in range
-  stands_low : (z : ℕ) → stands (c.inst z) ≡ true → z < 256
-  stands_low z e =
-      elim (cases_lt z 256) [
-        | inl l ↦ l
-        | inr out ↦ absurd (false≢true (sym (ap stands (law.inst z out)) ∙ e))
-      ]
 
   -- a binding's numbers are in range
   not_strays : (p x y : ℕ) → strays s p x y ≡ false → (p < u.ports) × (x < 256) × (y < 256)

@@ -155,9 +155,6 @@ module _ (c : Config) (z : ℕ) where
   unfolding result_of
   delete_bound p x y = refl
 
-  pub delete_bound_at : (p x : ℕ) → (result_of (Delete z) c).bound p x z ≡ false
-  delete_bound_at p x = delete_bound p x z ∙ and_right (c.bound p x z) _ (not_from_true _ (eq-eqb z z refl))
-
   pub delete_bound_off : (p x y : ℕ) → y ≢ z → (result_of (Delete z) c).bound p x y ≡ c.bound p x y
   delete_bound_off p x y ne = delete_bound p x y ∙ rw (ne_eqb y z ne) (and-true (c.bound p x y))
 

@@ -1,7 +1,7 @@
 -- What a search among numbers tells. Assumes nothing.
-use Rattle.std.proofs.Common.{◌≡◌, ℕ, zero, suc, ◌+◌, ◌<◌, ◌≤◌, Bool, true, false, ◌⊎◌, Some, None, Option, refl, ap, ◌∙◌, inl, inr, add-one, arith}
+use Rattle.std.proofs.Common.{◌≡◌, ℕ, zero, suc, ◌+◌, ◌<◌, Bool, true, false, ◌⊎◌, Some, None, Option, refl, ap, ◌∙◌, inl, inr, add-one, arith}
 use mathlib.Core.Bool.{false≢true}
-use Rattle.std.proofs.lemmas.Bool.{both_ways, cases_lt, or_cases, or_from, or_left, or_right}
+use Rattle.std.proofs.lemmas.Bool.{cases_lt, or_cases, or_left, or_right}
 use Rattle.model.specs.Search.{any, first_there, find_first}
 
 -- a test that cannot pass
@@ -33,23 +33,10 @@ any_some f (suc n) e =
 pub any_none_of : (f : ℕ → Bool) (n : ℕ) → ((i : ℕ) → i < n → f i ≡ true → ⊥) → any f n ≡ false
 any_none_of f n h = refuted (any f n) (λ e. let r = any_some f n e in h r.0 r.1 r.2)
 
--- where nothing is found, nothing passes
-pub any_no : (f : ℕ → Bool) (i n : ℕ) → any f n ≡ false → i < n → f i ≡ false
-any_no f i n e h = refuted (f i) (λ p. both_ways (any f n) e (any_found f i n h p))
-
 -- a search begins with nothing found
 pub any_none : (f : ℕ → Bool) → any f 0 ≡ false
 unfolding any
 any_none f = refl
-
--- and goes on while nothing passes
-pub any_more : (f : ℕ → Bool) (i : ℕ) → any f i ≡ false → f i ≡ false → any f (i + 1) ≡ false
-unfolding any
-any_more f i p q = rw add-one (or_from (any f i) (f i) p q)
-
--- and ends at its bound
-pub any_end : (f : ℕ → Bool) (i n : ℕ) → any f i ≡ false → i ≤ n → n ≤ i → any f n ≡ false
-any_end f i n p h k = let same : n ≡ i = omega arith in ap (any f) same ∙ p
 
 -- neither is there
 neither : {X : Type 0} (o q : Option X) → first_there o q ≡ None → (o ≡ None) × (q ≡ None)
@@ -80,10 +67,6 @@ first_found f i (suc n) a l p q =
       | inl lt ↦ rw (first_found f i n a lt p q)
       | inr ge ↦ let same : n ≡ i = omega arith in rw (same, p) q
     ]
-
--- and a search ends at its bound
-pub first_end : {X : Type 0} (f : ℕ → Option X) (i n : ℕ) → find_first f i ≡ None → i ≤ n → n ≤ i → find_first f n ≡ None
-first_end f i n p h k = let same : n ≡ i = omega arith in ap (find_first f) same ∙ p
 
 -- where nothing is found, no number finds anything
 pub first_no : {X : Type 0} (f : ℕ → Option X) (i n : ℕ) → find_first f n ≡ None → i < n → f i ≡ None

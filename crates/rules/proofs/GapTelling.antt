@@ -1,6 +1,5 @@
 -- What the search for the first gap tells. Assumes nothing.
-use Rattle.std.proofs.Common.{◌≡◌, ℕ, ◌<◌, ◌≤◌, Bool, true, false, not, ◌&&◌, is_some, Some, None, Option, sym, refl, ap, inl, inr, true≢false, arith}
-use mathlib.Core.Bool.{false≢true}
+use Rattle.std.proofs.Common.{◌≡◌, ℕ, ◌<◌, ◌≤◌, Bool, true, false, not, ◌&&◌, is_some, Some, None, Option, sym, refl, ap, inl, inr, arith}
 use Rattle.std.specs.Option.{MatchOption, option_map}
 use Rattle.std.proofs.lemmas.Bool.{cases_Bool}
 use Rattle.model.specs.Search.{find_first}
@@ -17,15 +16,6 @@ use Rattle.rules.specs.declared.gaps.FoundGap.{FoundGap}
 use Rattle.rules.specs.declared.gaps.Prospect.{Prospect}
 use Rattle.rules.specs.Finding.{FirstGap, TellsGaps, first_gap_in, first_gap_at, foreseen, gap_here}
 use Rattle.rules.proofs.Foreseeing.{foreseen_below}
-
--- what is not there, and what is
-pub none_is : {X : Type 0} (o : Option X) → is_some o ≡ false → o ≡ None
-none_is None e = refl
-none_is (Some a) e = absurd (true≢false e)
-
-pub some_is : {X : Type 0} (o : Option X) → is_some o ≡ true → (a : X) × (o ≡ Some a)
-some_is None e = absurd (false≢true e)
-some_is (Some a) e = (a, refl)
 
 module _ (u : Universe) (c : Config) where
   -- the test of a gap, taken apart

@@ -11,7 +11,7 @@ use Rattle.std.proofs.lemmas.Iterator.Splits.{YieldsList-from_slice_split}
 use Rattle.std.proofs.lemmas.List.{at_drop_more, at_drop_all}
 use Rattle.std.proofs.lemmas.List.FromFn.{length-enumerate_from, get_or-enumerate_from}
 use Rattle.model.specs.declared.order.Order.{Order}
-use Rattle.scripts.specs.Scripts.{after, in_front, text_lines, line_orders, judged, orders_from, orders_of}
+use Rattle.scripts.specs.Scripts.{after, text_lines, line_orders, judged, orders_from, orders_of}
 use Rattle.scripts.proofs.ScriptLists.{after_append, after_ok, after_err}
 
 -- the lines of a text, as the library cuts it at each byte 10
@@ -22,18 +22,13 @@ pieces bs = slice_split (λ b. eqb b 10) bs
 abbrev Trailed : List (List ℕ) → List (List ℕ) → Type 0
 Trailed ls ms = (ms ≡ ls) ⊎ (ms ≡ ls ++ ([] ∷ []))
 
--- a byte in front of the first line
-same_front : (b : ℕ) (ls : List (List ℕ)) → onto_first b ls ≡ in_front b ls
-same_front b [] = refl
-same_front b (l ∷ ls) = refl
-
-trailed_front : (b : ℕ) (ls ms : List (List ℕ)) → Trailed ls ms → Trailed (in_front b ls) (onto_first b ms)
-trailed_front b ls ms (inl e) = inl (ap (onto_first b) e ∙ same_front b ls)
+trailed_front : (b : ℕ) (ls ms : List (List ℕ)) → Trailed ls ms → Trailed (onto_first b ls) (onto_first b ms)
+trailed_front b ls ms (inl e) = inl (ap (onto_first b) e)
 trailed_front b [] ms (inr e) = inl (ap (onto_first b) e)
 trailed_front b (l ∷ ls) ms (inr e) = inr (ap (onto_first b) e)
 
 -- one byte more, by whether it ends a line
-trailed_byte : (b : ℕ) (ls ms : List (List ℕ)) (t : Bool) → Trailed ls ms → Trailed (cond t ([] ∷ ls) (in_front b ls)) (cond t ([] ∷ ms) (onto_first b ms))
+trailed_byte : (b : ℕ) (ls ms : List (List ℕ)) (t : Bool) → Trailed ls ms → Trailed (cond t ([] ∷ ls) (onto_first b ls)) (cond t ([] ∷ ms) (onto_first b ms))
 trailed_byte b ls ms true (inl e) = inl (ap (λ x. [] ∷ x) e)
 trailed_byte b ls ms true (inr e) = inr (ap (λ x. [] ∷ x) e)
 trailed_byte b ls ms false h = trailed_front b ls ms h

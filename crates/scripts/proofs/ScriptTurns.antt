@@ -7,11 +7,6 @@ use Rattle.lines.specs.Line.{decoded}
 use Rattle.console.specs.Told.{report}
 use Rattle.scripts.specs.Scripts.{line_text, order_at, lines_text, lines_refused}
 
--- the answer of a line is its order
-order_at_lem : (x : ℕ) (o : Result Order LineRefusal) → o ≡ decoded x → order_at x ≡ o
-unfolding order_at
-order_at_lem x o e = sym e
-
 -- what is printed from a place on, and whether a line is refused there
 unfoldable pub report_on : List ℕ → ℕ → List ℕ → Result (List ℕ) (List ℕ)
 report_on before i xs = report (lines_refused xs) (before ++ lines_text i xs)
@@ -25,10 +20,10 @@ module _ (before xs : List ℕ) (i : ℕ) (all : Result (List ℕ) (List ℕ)) (
   -- by the answer of the line there
   report_step : (o : Result Order LineRefusal) → i < length xs → o ≡ decoded (get_or xs i 0)
       → report (is_err o || lines_refused (drop (i + 1) xs)) (before ++ (line_text i o ++ cond (is_err o) [] (lines_text (i + 1) (drop (i + 1) xs)))) ≡ all
-  unfolding lines_text lines_refused report_on
+  unfolding lines_text lines_refused report_on order_at
   report_step o h e =
       sym (at_drop_more (report_on before i) xs i 0 h
-      ∙ ap (λ p. report (is_err p || lines_refused (drop (i + 1) xs)) (before ++ (line_text i p ++ cond (is_err p) [] (lines_text (suc i) (drop (i + 1) xs))))) (order_at_lem (get_or xs i 0) o e)
+      ∙ ap (λ p. report (is_err p || lines_refused (drop (i + 1) xs)) (before ++ (line_text i p ++ cond (is_err p) [] (lines_text (suc i) (drop (i + 1) xs))))) (sym e)
       ∙ ap (λ k. report (is_err o || lines_refused (drop (i + 1) xs)) (before ++ (line_text i o ++ cond (is_err o) [] (lines_text k (drop (i + 1) xs))))) (sym (add-one i)))
       ∙ so_far
 

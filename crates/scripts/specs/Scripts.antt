@@ -1,6 +1,7 @@
 -- Script files and their texts: what is read, printed and written.
 use Rattle.std.specs.Prelude.{ℕ, suc, ◌+◌, ◌*◌, ◌/◌, ◌%◌, Bool, false, cond, ◌||◌, List, [], ◌∷◌, ◌++◌, length, map, is_err, Some, None, Ok, Err, codes, decimal, Option, Result, ◌==◌, slice_index}
 use Rattle.std.specs.Option.{option_map}
+use Rattle.std.specs.List.{onto_first}
 use Rattle.std.specs.Simd.{first_chunks}
 use Rattle.model.specs.declared.order.Order.{Order}
 use Rattle.lines.specs.declared.refusal.LineRefusal.{LineRefusal}
@@ -80,15 +81,10 @@ unfoldable pub packed : ℕ → List Order → Result (List ℕ) PackFault
 packed place [] = Ok []
 packed place (o ∷ os) = packed_line place (line_of o) (packed (suc place) os)
 
--- a byte in front of the first line
-abbrev pub in_front : ℕ → List (List ℕ) → List (List ℕ)
-in_front b [] = (b ∷ []) ∷ []
-in_front b (l ∷ ls) = (b ∷ l) ∷ ls
-
 -- the lines of a text: byte 10 ends a line, and the last may lack it
 unfoldable pub text_lines : List ℕ → List (List ℕ)
 text_lines [] = []
-text_lines (b ∷ bs) = cond (b == 10) ([] ∷ text_lines bs) (in_front b (text_lines bs))
+text_lines (b ∷ bs) = cond (b == 10) ([] ∷ text_lines bs) (onto_first b (text_lines bs))
 
 -- a line that is passed over: it is empty, or begins with #
 abbrev pub passed : List ℕ → Bool

@@ -59,7 +59,7 @@ fn line_report(
 }
 
 // What is printed of the lines, up to the first that is refused.
-#[tactic(auto, using(crate::proofs::ScriptTurns::report_end))]
+#[tactic(auto, using(crate::proofs::ScriptTurns::report_start, crate::proofs::ScriptTurns::report_end))]
 pub fn lines_report(alloc: Global, lines: &[u32]) -> Result<String, Failure<String>>
     ensures { Told string_bytes string_bytes result (report (lines_refused lines.now) (lines_text 0 lines.now)) }
 {
@@ -137,6 +137,7 @@ fn parse_line(before: usize, line: &[u8]) -> Result<Option<Order>, NoOrder>
 }
 
 // The orders of a text, or the first line that cannot be read.
+#[tactic(auto, using(crate::proofs::ParseTurns::orders_start))]
 pub fn parse_orders(alloc: Global, text: &[u8]) -> Result<Vec<Order>, Failure<NoOrder>>
     ensures { Told vec_items (λ (e : NoOrder). e.line) result (orders_of text.now) }
 {

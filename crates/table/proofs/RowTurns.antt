@@ -1,9 +1,10 @@
 -- The turns of the loops over rows. Assumes nothing.
 use Rattle.std.proofs.Common.{◌≡◌, ℕ, ◌+◌, ◌-◌, ◌<◌, ◌≤◌, ◌≢◌, true, false, ltb, List, length, take, get_or, set, sym, ap, ◌∙◌, inl, inr, arith}
 use Rattle.std.specs.List.{CopiedTo, SameBelow}
-use Rattle.std.specs.List.Sorted.{IsPartitionPoint, IsPartitionedBy}
+use Rattle.std.specs.List.Sorted.{IsNonDecreasingBy, IsPartitionPoint, IsPartitionedBy}
 use Rattle.std.proofs.lemmas.List.{get_or-set_same, get_or-set_other, get_or-take, get_or_default, length-take-le}
-use Rattle.std.proofs.lemmas.Bool.{cases_lt, lt-ltb, ltb-true, ltb-false}
+use Rattle.std.proofs.lemmas.List.Sorted.{IsPartitionedBy-ltb}
+use Rattle.std.proofs.lemmas.Bool.{cases_lt, ltb-true, ltb-false}
 use Rattle.table.specs.declared.row.Row.{Row}
 use Rattle.table.specs.Rows.{binding_of, blank, row, rank, Ordered, Place, Opened, Closed, Kept}
 use Rattle.table.proofs.RowSearch.{one_rank}
@@ -25,21 +26,18 @@ partition_place xs n k r room most point =
 
 -- rows that rise are parted by any rank
 pub rows_parted : (xs : List Row) (n k : ℕ) → n ≤ length xs → Ordered xs n → IsPartitionedBy (λ b. ltb (rank b) k) (take n xs)
-rows_parted xs n k room o i j d l m h =
-    ap (λ b. ltb (rank b) k) (at i (omega arith)) ∙ lt-ltb (rank (row xs i)) k (omega (arith, rises, ltb-true (rank (row xs j)) k (ap (λ b. ltb (rank b) k) (sym (at j m)) ∙ h)))
+rows_parted xs n k room o = IsPartitionedBy-ltb rank (take n xs) k rises
   where
-    low : (i : ℕ) → i < length (take n xs) → i < n
-    low i l = omega (arith, length-take-le n xs room)
+    at : (i : ℕ) (d : Row) → i < length (take n xs) → get_or (take n xs) i d ≡ row xs i
+    at i d l = get_or_default (take n xs) i d blank l ∙ get_or-take n xs i blank (omega (arith, length-take-le n xs room))
 
-    at : (i : ℕ) → i < length (take n xs) → get_or (take n xs) i d ≡ row xs i
-    at i l = get_or_default (take n xs) i d blank l ∙ get_or-take n xs i blank (low i l)
-
-    rises : rank (row xs i) ≤ rank (row xs j)
-    rises =
-        elim (cases_lt i j) [
-          | inl lt ↦ let r = o i j lt (low j m) in omega arith
+    rises : IsNonDecreasingBy rank (take n xs)
+    rises i j d l m =
+        rw (at i d (omega arith), at j d m)
+        (elim (cases_lt i j) [
+          | inl lt ↦ let r = o i j lt (omega (arith, length-take-le n xs room)) in omega arith
           | inr ge ↦ let e : i ≡ j = omega arith in omega (arith, ap (λ k. rank (row xs k)) e)
-        ]
+        ])
 
 -- the rows from r on copied one place up
 pub opened_of : (xs ys : List Row) (r n : ℕ) → r ≤ n → CopiedTo xs ys r (r + 1) (n - r) → SameBelow xs ys (r + 1) → Opened xs ys r n

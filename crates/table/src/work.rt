@@ -46,6 +46,7 @@ impl Records {
     }
 
     // How many bindings stand.
+    #[tactic(auto, using(crate::proofs::Performed::len_counts))]
     pub(crate) fn bindings(&self) -> u32
         ensures { result ≡ bindings 32 256 (config_of self.now) }
     {
@@ -67,6 +68,7 @@ impl Records {
     }
 
     // Whether the binding stands.
+    #[tactic(auto, using(crate::proofs::RowSearch::held_found, crate::proofs::RowSearch::held_within))]
     pub(crate) fn is_bound(&self, binding: Binding) -> bool
         ensures { result ≡ (config_of self.now).bound binding.port binding.provider binding.requirer }
     {
@@ -81,6 +83,7 @@ impl Records {
     }
 
     // Whether some binding has this instance as its provider.
+    #[tactic(auto, using(crate::proofs::RowSearch::provider_beyond, crate::proofs::RowSearch::provider_found))]
     pub(crate) fn is_provider(&self, instance: u32) -> bool
         ensures { result ≡ provider_test (config_of self.now) instance }
     {
@@ -94,6 +97,7 @@ impl Records {
     }
 
     // An instance of the type, in its state 0.
+    #[tactic(auto, using(crate::proofs::Performed::count_most, crate::proofs::Performed::created, crate::proofs::Performed::created_fit))]
     pub(crate) fn create(&mut self, instance: u32, kind: u8)
         requires { (instance < 256) × (stands ((config_of self.old).inst instance) ≡ false) }
         ensures { config_of self.new ≡ result_of (Create instance kind) (config_of self.old) }
@@ -103,6 +107,7 @@ impl Records {
     }
 
     // What stands under the number is in the state.
+    #[tactic(auto, using(crate::proofs::Performed::changed, crate::proofs::Performed::changed_fit))]
     pub(crate) fn change(&mut self, instance: u32, state: u8)
         requires { instance < 256 }
         ensures { config_of self.new ≡ result_of (Change instance state) (config_of self.old) }
@@ -112,6 +117,7 @@ impl Records {
     }
 
     // A binding more.
+    #[tactic(auto, using(crate::proofs::Performed::bound, crate::proofs::Performed::bound_fit, crate::proofs::Performed::len_counts))]
     pub(crate) fn bind(&mut self, row: Row)
         requires room { bindings 32 256 (config_of self.old) < 2048 }
         requires unbound { (config_of self.old).bound row.port row.provider row.requirer ≡ false }
@@ -134,6 +140,7 @@ impl Records {
     }
 
     // An instance less, and with it the bindings of which it is the requirer.
+    #[tactic(auto, using(crate::proofs::Performed::count_some, crate::proofs::Performed::deleted, crate::proofs::Performed::deleted_fit))]
     pub(crate) fn delete(&mut self, instance: u8)
         requires { stands ((config_of self.old).inst instance) ≡ true }
         ensures { config_of self.new ≡ result_of (Delete instance) (config_of self.old) }

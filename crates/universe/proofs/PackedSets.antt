@@ -84,15 +84,6 @@ has_field (suc w) f p h = elim (cases_lt p w) [
   | inr g ↦ let e : p ≡ w = omega arith in rw (e, has_last w (field w f * 2 + bit (f w)), bit_odd (field w f) (f w))
 ]
 
-pub field_below : (w : ℕ) (f : ℕ → Bool) → field w f < 2 ^ w
-unfolding field
-field_below zero f = omega arith
-field_below (suc w) f = below (field w f) (f w) (field_below w f)
-  where
-    below : (m : ℕ) (b : Bool) → m < 2 ^ w → m * 2 + bit b < 2 ^ suc w
-    below m true l = omega (arith, pow-succ' 2 w)
-    below m false l = omega (arith, pow-succ' 2 w)
-
 -- tests that agree below the width give one field
 pub field_same : (w : ℕ) (f g : ℕ → Bool) → ((p : ℕ) → p < w → f p ≡ g p) → field w f ≡ field w g
 unfolding field

@@ -45,10 +45,6 @@ module _ {X : Type 0} (places n count : ℕ) (d : X) (blanks : List X) (b : blan
   filled_up xs l = rw (b, l, drop-replicate n places d, e) refl
 
 module _ (ports : ℕ) (bs : List ℕ) where
-  pub kind_refused : (e : UniverseRefusal) → count_read bs ≡ Err e → kind_read ports bs ≡ Err e
-  unfolding kind_read
-  kind_refused e h = rw h
-
   module _ (count n : ℕ) (blanks : List State) (rest : List ℕ) (few : count ≤ 8) (b : blanks ≡ replicate 8 blank_state) (n-is : n ≡ count) where
     states_in_use : length (take n blanks) ≡ count
     states_in_use = part_in_use 8 n count blank_state blanks b n-is few

@@ -10,7 +10,7 @@ use crate::refusal::UniverseRefusal;
 use crate::tables::{Kind, Tables};
 
 // The type at the front of the bytes, and the bytes behind it.
-#[tactic(auto, using(crate::proofs::Turns::kind_refused, crate::proofs::Turns::kind_stops))]
+#[tactic(auto, using(crate::proofs::Turns::kind_stops), unfolding(crate::specs::Reading::kind_read))]
 fn read_kind(ports: u8, bytes: &[u8]) -> Result<(Kind, &[u8]), UniverseRefusal>
     ensures { Splits kind_size result (kind_read ports bytes.now) bytes.now }
 {

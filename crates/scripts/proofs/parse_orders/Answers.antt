@@ -1,10 +1,7 @@
 use Rattle.std.proofs.Common.{◌+◌, [], ◌∷◌, length, vec_items, Err, ap, ◌∙◌, append-nil, rules, tests}
 use Rattle.std.proofs.lemmas.List.{length_push}
-use Rattle.scripts.proofs.ParseTurns.{orders_start, orders_more, orders_bad, orders_end, piece_turn, piece_end, pieces, numbers_of}
+use Rattle.scripts.proofs.ParseTurns.{orders_more, orders_bad, orders_end, piece_turn, piece_end, pieces, numbers_of}
 use Rattle.scripts.proofs.parse_orders.Goals as goal
-
-pub loop-before-init : goal.loop-before-init
-loop-before-init c = search (rules, orders_start)
 
 pub loop-before-preserved-in-Continue-1 : goal.loop-before-preserved-in-Continue-1
 loop-before-preserved-in-Continue-1 c =

@@ -1,13 +1,8 @@
 use Rattle.std.proofs.Common.{rules}
-use Rattle.table.proofs.Performed.{changed, changed_fit}
+use Rattle.table.proofs.Performed.{changed_fit}
 use Rattle.table.proofs.records.Records.change.Goals as goal
 
 pub invariant_of-self : goal.invariant_of-self
 invariant_of-self c =
     let t = c.args.self.now in
     record { fit = changed_fit t.slots t.rows t.len t.count t.fit c.args.instance c.requires c.args.state c.map.result (search rules) }
-
-pub returns : goal.returns
-returns c =
-    let t = c.args.self.now in
-    changed t.slots t.rows t.len t.count t.fit c.args.instance c.requires c.args.state c.map.result (search rules)

@@ -1,11 +1,6 @@
 use Rattle.std.proofs.Common.{◌≡◌, length, arith}
-use Rattle.table.proofs.Performed.{count_some, deleted, deleted_fit}
+use Rattle.table.proofs.Performed.{deleted, deleted_fit}
 use Rattle.table.proofs.records.Records.delete.Goals as goal
-
-pub overflow_sub-self : goal.overflow_sub-self
-overflow_sub-self c =
-    let t = c.args.self.now in
-    count_some t.slots t.rows t.len t.count t.fit c.args.instance (omega arith) c.requires
 
 pub invariant_of-self : goal.invariant_of-self
 invariant_of-self c =

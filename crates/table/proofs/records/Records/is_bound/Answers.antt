@@ -1,15 +1,7 @@
-use Rattle.std.proofs.Common.{◌≤◌, eqb, length, sym, arith, rules}
-use Rattle.model.proofs.Searches.{refuted}
+use Rattle.std.proofs.Common.{◌≤◌, eqb, length, arith, rules}
 use Rattle.table.specs.Rows.{rank}
-use Rattle.table.proofs.RowSearch.{held_found, held_within, tested}
+use Rattle.table.proofs.RowSearch.{held_found, tested}
 use Rattle.table.proofs.records.Records.is_bound.Goals as goal
-
-pub returns-then-binding-gt31 : goal.returns-then-binding-gt31
-returns-then-binding-gt31 c =
-    let t = c.args.self.now in
-    let b = c.args.binding in
-    let far = c.then-binding-gt31.either in
-    sym (refuted _ (λ e. let h = held_within t.rows t.len t.fit.ordered b.port b.provider b.requirer e in omega arith))
 
 pub returns : goal.returns
 returns c =

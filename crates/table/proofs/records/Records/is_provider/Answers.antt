@@ -1,12 +1,7 @@
 use Rattle.std.proofs.Common.{◌≤◌, eqb, length, arith, rules}
 use Rattle.table.specs.Fit.{standing}
-use Rattle.table.proofs.RowSearch.{provider_beyond, provider_found, tested}
+use Rattle.table.proofs.RowSearch.{provider_found, tested}
 use Rattle.table.proofs.records.Records.is_provider.Goals as goal
-
-pub returns-then-instance-gt255 : goal.returns-then-instance-gt255
-returns-then-instance-gt255 c =
-    let t = c.args.self.now in
-    provider_beyond t.rows t.len t.fit.ordered (standing t.slots) c.args.instance c.if-instance-gt255.true
 
 pub returns : goal.returns
 returns c =
