@@ -4,7 +4,7 @@
 
 use console::describe::universe_report;
 use console::failure::Failure;
-use console::hex::parse_hex;
+use console::hex::{NotHex, parse_hex};
 use rows::show_table;
 use scripts::{
     CutShort, NoOrder, PackFault, lines_report, pack_orders, pack_text, parse_orders, refusal_text,
@@ -68,9 +68,12 @@ fn show_bytes<F: Fn(&HostRuntime, &[u8]) -> anyhow::Result<()>>(
 ) -> anyhow::Result<()>
     requires { F.IsAlwaysCallable show }
 {
-    match parse_hex(rt.alloc(), digits.as_bytes())? {
-        Some(bytes) => show(rt, &bytes),
-        None => Ok(println!(rt; "a row with no digits")?),
+    match parse_hex(rt.alloc(), digits.as_bytes()) {
+        Ok(bytes) => show(rt, &bytes),
+        Err(failure) => {
+            let NotHex = failure.into_refusal()?;
+            Ok(println!(rt; "a row with no digits")?)
+        }
     }
 }
 

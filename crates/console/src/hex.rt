@@ -1,9 +1,14 @@
 // Bytes written as hexadecimal digits.
-ghost use Rattle.std.specs.Prelude.{◌≡◌, IfOk, vec_items};
+ghost use Rattle.std.specs.Prelude.{◌≡◌, ok_or, vec_items};
 ghost use Rattle.console.specs.Hex.{byte_of, bytes_of, digit_of, pairs_of};
-ghost use Rattle.std.specs.Option.{option_map};
+ghost use Rattle.console.specs.Told.{Told};
 
-use std::alloc::{AllocError, Global};
+use crate::failure::Failure;
+use std::alloc::Global;
+
+// A word that is no pairs of hexadecimal digits.
+#[derive(Clone, Copy, PartialEq, Eq, Debug)]
+pub struct NotHex;
 
 // The value of a digit.
 fn digit(byte: u8) -> Option<u8>
@@ -24,27 +29,25 @@ fn byte_of(high: u8, low: u8) -> Option<u8>
     Some(digit(high)? * 16 + digit(low)?)
 }
 
-// The bytes of pairs of digits; none where a character is no digit.
-fn read_pairs(alloc: Global, pairs: &[[u8; 2]]) -> Result<Option<Vec<u8>>, AllocError>
-    ensures { IfOk result (λ o. option_map vec_items o ≡ pairs_of pairs.now) }
+// The bytes of pairs of digits.
+#[tactic(auto, using(crate::proofs::HexTurns::hex_failed, crate::proofs::HexTurns::hex_all))]
+fn read_pairs(alloc: Global, pairs: &[[u8; 2]]) -> Result<Vec<u8>, Failure<NotHex>>
+    ensures { Told vec_items (λ e. e) result (ok_or (pairs_of pairs.now) (record {})) }
 {
     let mut bytes = Vec::new(alloc);
     for [high, low] in pairs {
-        let Some(byte) = byte_of(*high, *low) else {
-            return Ok(None);
-        };
+        let byte = byte_of(*high, *low).ok_or(Failure::Refused(NotHex))?;
         bytes.push(byte)?;
     }
-    Ok(Some(bytes))
+    Ok(bytes)
 }
 
-// The bytes that a word of hexadecimal digits writes; none where a character is no digit, or one is left over.
-// `None` and no `Failure`, since there is nothing to tell of such a word.
-pub fn parse_hex(alloc: Global, word: &[u8]) -> Result<Option<Vec<u8>>, AllocError>
-    ensures { IfOk result (λ o. option_map vec_items o ≡ bytes_of word.now) }
+// The bytes that a word of hexadecimal digits writes, two for each.
+pub fn parse_hex(alloc: Global, word: &[u8]) -> Result<Vec<u8>, Failure<NotHex>>
+    ensures { Told vec_items (λ e. e) result (ok_or (bytes_of word.now) (record {})) }
 {
     let (pairs, []) = word.as_chunks::<2>() else {
-        return Ok(None);
+        return Err(Failure::Refused(NotHex));
     };
     read_pairs(alloc, pairs)
 }
