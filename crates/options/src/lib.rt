@@ -198,7 +198,8 @@ pub fn parse_options(words: &[String]) -> Result<Given, Fault>
 pub fn plain_place(words: &[String], nth: usize) -> Option<usize>
     ensures { result ≡ plain_place_of nth (map string_bytes words.now) }
 {
-    // Counted here: `nth` would need an iterator over the plain words, a type of its own.
+    // Counted here: a `filter` with `nth` would have to carry from word to word whether the next is a value, and is no
+    // plainer.
     let mut left = nth;
     let mut words = words.iter().enumerate();
     while let Some((place, word)) = words.next() {
