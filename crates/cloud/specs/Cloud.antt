@@ -56,3 +56,7 @@ cloud_situation s = situation_of s.table
 
 abbrev pub cloud_service : Cloud → Service
 cloud_service s = service_of (cloud_of s)
+
+-- just what the cloud does with an order
+abbrev pub CloudTakes : Order → Cloud → Cloud → Answer → Type 0
+CloudTakes o h k r = Takes o (cloud_of h) (cloud_of k) r

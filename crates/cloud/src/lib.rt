@@ -3,12 +3,11 @@
 
 ghost use Rattle.std.specs.Prelude.{◌≡◌, min};
 ghost use Rattle.std.proofs.Common.{lit≤};
-ghost use Rattle.model.specs.declared.order.Order.TheVariants.{Create, Bind, Change, Unbind, Delete};
 ghost use Rattle.model.specs.Config.{empty};
 ghost use Rattle.universe.specs.Held.{universe_in};
 ghost use Rattle.hosts.specs.Answers.{Gives};
 ghost use Rattle.table.specs.Table.{lawful_of};
-ghost use Rattle.cloud.specs.Cloud.{Takes, cloud_of, cloud_service, cloud_situation};
+ghost use Rattle.cloud.specs.Cloud.{CloudTakes, cloud_of, cloud_service, cloud_situation};
 
 mod state;
 
@@ -47,7 +46,7 @@ impl Cloud {
     // Takes an order.
     fn take(&mut self, order: Order) -> Result<(), Refusal>
         ensures answered { Gives cloud_situation cloud_service order self.old self.new result }
-        ensures taken { Takes order (cloud_of self.old) (cloud_of self.new) result }
+        ensures exact { CloudTakes order self.old self.new result }
     {
         if self.waits > 0 {
             self.waits -= 1;
@@ -89,6 +88,8 @@ impl Host for Cloud {
 
     ghost sane = { λ s. record { waits = s.bounds; height = lit≤ tt } };
 
+    ghost does = { CloudTakes };
+
     fn load(&self) -> Load {
         Load {
             waits: self.waits,
@@ -109,39 +110,24 @@ impl Host for Cloud {
         0
     }
 
-    // The five orders, each with its clauses; their work is one, `take`.
-    fn create(&mut self, instance: u32, kind: u32) -> Result<(), Refusal>
-        ensures answered { Gives cloud_situation cloud_service (Create instance kind) self.old self.new result }
-        ensures taken { Takes (Create instance kind) (cloud_of self.old) (cloud_of self.new) result }
-    {
+    // The work of the five orders is one, `take`.
+    fn create(&mut self, instance: u32, kind: u32) -> Result<(), Refusal> {
         self.take(Order::Create { instance, kind })
     }
 
-    fn bind(&mut self, binding: Binding) -> Result<(), Refusal>
-        ensures answered { Gives cloud_situation cloud_service (Bind binding) self.old self.new result }
-        ensures taken { Takes (Bind binding) (cloud_of self.old) (cloud_of self.new) result }
-    {
+    fn bind(&mut self, binding: Binding) -> Result<(), Refusal> {
         self.take(Order::Bind(binding))
     }
 
-    fn change(&mut self, instance: u32, state: u32) -> Result<(), Refusal>
-        ensures answered { Gives cloud_situation cloud_service (Change instance state) self.old self.new result }
-        ensures taken { Takes (Change instance state) (cloud_of self.old) (cloud_of self.new) result }
-    {
+    fn change(&mut self, instance: u32, state: u32) -> Result<(), Refusal> {
         self.take(Order::Change { instance, state })
     }
 
-    fn unbind(&mut self, binding: Binding) -> Result<(), Refusal>
-        ensures answered { Gives cloud_situation cloud_service (Unbind binding) self.old self.new result }
-        ensures taken { Takes (Unbind binding) (cloud_of self.old) (cloud_of self.new) result }
-    {
+    fn unbind(&mut self, binding: Binding) -> Result<(), Refusal> {
         self.take(Order::Unbind(binding))
     }
 
-    fn delete(&mut self, instance: u32) -> Result<(), Refusal>
-        ensures answered { Gives cloud_situation cloud_service (Delete instance) self.old self.new result }
-        ensures taken { Takes (Delete instance) (cloud_of self.old) (cloud_of self.new) result }
-    {
+    fn delete(&mut self, instance: u32) -> Result<(), Refusal> {
         self.take(Order::Delete { instance })
     }
 }

@@ -2,7 +2,8 @@
 use Rattle.std.specs.Prelude.{◌≡◌, ℕ, Bool, true, false, not, List, [], ◌∷◌, ◌++◌, Ok, Err, codes, decimal}
 use Rattle.model.specs.declared.order.Order.{Order}
 use Rattle.model.specs.Bounded.{any_gap}
-use Rattle.hosts.specs.Answers.{Answer, Answered, Meaning}
+use Rattle.hosts.specs.Answers.{Answer, Gives}
+use Rattle.hosts.specs.Service.{Service}
 use Rattle.hosts.specs.Refusals.{refusal_text}
 use Rattle.hosts.specs.Loads.{load_text}
 use Rattle.hosts.specs.Survey.{Situation, bindings_of, instances_of}
@@ -22,13 +23,6 @@ answer_text_of (Err e) = codes "refused " ++ refusal_text e
 abbrev pub order_line_of : Order → Answer → Load → List ℕ
 order_line_of o a l = written o ++ (codes ": " ++ (answer_text_of a ++ (codes " " ++ (load_text l ++ newline))))
 
--- the text tells of the order: a host that meant m gave some answer and then meant n, and the text is the order's line
--- with that answer, and with the waits and the allowances that the host then had
-pub record Told (o : Order) (m n : Meaning) (text : List ℕ) : Type 0 where
-  pub answer : Answer
-  pub answered : Answered o m n answer
-  pub line : text ≡ order_line_of o answer n.service.load
-
 abbrev pub yes_no_of : Bool → List ℕ
 yes_no_of true = codes "yes"
 yes_no_of false = codes "no"
@@ -42,12 +36,22 @@ end_line_of instances bindings gap_free =
 abbrev pub survey_line : Situation → List ℕ
 survey_line s = end_line_of (instances_of s) (bindings_of s) (not (any_gap 256 s.universe s.config))
 
--- the text tells of the orders, one after the other
-abbrev pub ToldAll : List Order → Meaning → Meaning → List ℕ → Type 0
-ToldAll [] m n text = (n ≡ m) × (text ≡ [])
-ToldAll (o ∷ os) m n text =
-    (k : Meaning) × (line : List ℕ) × (rest : List ℕ) × Told o m k line × ToldAll os k n rest × (text ≡ line ++ rest)
+-- s and v tell what a host means, and does what it does
+module _ {H : Type 0} (s : H → Situation) (v : H → Service) (does : Order → H → H → Answer → Type 0) where
+  -- the text tells of the order: the host h gave some answer and became k, by the relation of hosts and just as it does,
+  -- and the text is the order's line with that answer, and with the waits and the allowances that the host then had
+  pub record Told (o : Order) (h k : H) (text : List ℕ) : Type 0 where
+    pub answer : Answer
+    pub answered : Gives s v o h k answer
+    pub exact : does o h k answer
+    pub line : text ≡ order_line_of o answer (v k).load
 
--- the text tells of the orders, and then of what stands
-abbrev pub Reported : List Order → Meaning → Meaning → List ℕ → Type 0
-Reported os m n text = (told : List ℕ) × ToldAll os m n told × (text ≡ told ++ survey_line n.situation)
+  -- the text tells of the orders, one after the other
+  abbrev pub ToldAll : List Order → H → H → List ℕ → Type 0
+  ToldAll [] h k text = (k ≡ h) × (text ≡ [])
+  ToldAll (o ∷ os) h k text =
+      (next : H) × (line : List ℕ) × (rest : List ℕ) × Told o h next line × ToldAll os next k rest × (text ≡ line ++ rest)
+
+  -- the text tells of the orders, and then of what stands
+  abbrev pub Reported : List Order → H → H → List ℕ → Type 0
+  Reported os h k text = (lines : List ℕ) × ToldAll os h k lines × (text ≡ lines ++ survey_line (s k))

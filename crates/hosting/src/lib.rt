@@ -2,7 +2,6 @@
 #![tactic(auto)]
 
 ghost use Rattle.std.specs.Prelude.{◌≡◌, IfOk, string_bytes};
-ghost use Rattle.hosts.specs.Answers.{meaning};
 ghost use Rattle.hosting.specs.Hosting.{Reported, Told, answer_text_of, end_line_of, order_line_of, survey_line};
 
 use hosts::host::{Host, give};
@@ -42,7 +41,7 @@ pub fn order_report<B: Host>(
     host: &mut B,
     order: Order,
 ) -> Result<String, AllocError>
-    ensures { IfOk result (λ s. Told order (meaning (B.Survey.situation host.old) (B.service host.old)) (meaning (B.Survey.situation host.new) (B.service host.new)) (string_bytes s)) }
+    ensures { IfOk result (λ s. Told B.Survey.situation B.service B.does order host.old host.new (string_bytes s)) }
 {
     let answer = give(host, order);
     order_line(alloc, order, answer, host.load())
@@ -75,7 +74,7 @@ pub fn host_report<B: Host>(
     host: &mut B,
     orders: &[Order],
 ) -> Result<String, AllocError>
-    ensures { IfOk result (λ s. Reported orders.now (meaning (B.Survey.situation host.old) (B.service host.old)) (meaning (B.Survey.situation host.new) (B.service host.new)) (string_bytes s)) }
+    ensures { IfOk result (λ s. Reported B.Survey.situation B.service B.does orders.now host.old host.new (string_bytes s)) }
 {
     let mut text = String::new(alloc);
     for order in orders {

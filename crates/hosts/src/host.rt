@@ -1,8 +1,9 @@
 // A host: a survey that also takes orders.
 ghost use Rattle.std.specs.Prelude.{◌≡◌};
+ghost use Rattle.model.specs.declared.order.Order.{Order};
 ghost use Rattle.model.specs.declared.order.Order.TheVariants.{Create, Bind, Change, Unbind, Delete};
 ghost use Rattle.hosts.specs.Service.{Sane, Service};
-ghost use Rattle.hosts.specs.Answers.{Gives};
+ghost use Rattle.hosts.specs.Answers.{Answer, Gives};
 
 use crate::load::Load;
 use crate::refusal::Refusal;
@@ -16,6 +17,9 @@ pub trait Host: Survey {
 
     // Waits are up to the longest wait, and the height is up to 255.
     ghost sane: { (x : Self) → Sane (service x) };
+
+    // Just what this host does with an order: it fixes what the relation of hosts leaves free.
+    ghost does: { Order → Self → Self → Answer → Type 0 };
 
     // What orders move: how many are put off, and what is allowed.
     fn load(&self) -> Load
@@ -35,24 +39,30 @@ pub trait Host: Survey {
 
     // The five orders. A rule of the project gives a host a method for each, with its contract; `give` below takes any.
     fn create(&mut self, instance: u32, kind: u32) -> Result<(), Refusal>
-        ensures answered { Gives Self.Survey.situation service (Create instance kind) self.old self.new result };
+        ensures answered { Gives Self.Survey.situation service (Create instance kind) self.old self.new result }
+        ensures exact { does (Create instance kind) self.old self.new result };
 
     fn bind(&mut self, binding: Binding) -> Result<(), Refusal>
-        ensures answered { Gives Self.Survey.situation service (Bind binding) self.old self.new result };
+        ensures answered { Gives Self.Survey.situation service (Bind binding) self.old self.new result }
+        ensures exact { does (Bind binding) self.old self.new result };
 
     fn change(&mut self, instance: u32, state: u32) -> Result<(), Refusal>
-        ensures answered { Gives Self.Survey.situation service (Change instance state) self.old self.new result };
+        ensures answered { Gives Self.Survey.situation service (Change instance state) self.old self.new result }
+        ensures exact { does (Change instance state) self.old self.new result };
 
     fn unbind(&mut self, binding: Binding) -> Result<(), Refusal>
-        ensures answered { Gives Self.Survey.situation service (Unbind binding) self.old self.new result };
+        ensures answered { Gives Self.Survey.situation service (Unbind binding) self.old self.new result }
+        ensures exact { does (Unbind binding) self.old self.new result };
 
     fn delete(&mut self, instance: u32) -> Result<(), Refusal>
-        ensures answered { Gives Self.Survey.situation service (Delete instance) self.old self.new result };
+        ensures answered { Gives Self.Survey.situation service (Delete instance) self.old self.new result }
+        ensures exact { does (Delete instance) self.old self.new result };
 }
 
 // Gives the host an order.
 pub fn give<B: Host>(host: &mut B, order: Order) -> Result<(), Refusal>
-    ensures { Gives B.Survey.situation B.service order host.old host.new result }
+    ensures answered { Gives B.Survey.situation B.service order host.old host.new result }
+    ensures exact { B.does order host.old host.new result }
 {
     match order {
         Order::Create { instance, kind } => host.create(instance, kind),

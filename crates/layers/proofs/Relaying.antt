@@ -8,8 +8,8 @@ use Rattle.hosts.specs.declared.refusal.Reason.TheVariants.{Gap, Full}
 use Rattle.hosts.specs.Survey.{Situation}
 use Rattle.hosts.specs.Service.{Profile, Sane, Service}
 use Rattle.hosts.specs.Offences.{offence, refused_if}
-use Rattle.hosts.specs.Answers.{Answer, Answered, Meaning, UpTo, decision, illegal_or, full_test, is_tested, leaves_gap, meaning}
-use Rattle.layers.specs.Verifying.{Relayed, above, stopped, watched}
+use Rattle.hosts.specs.Answers.{Answer, Answered, Gives, Meaning, UpTo, decision, illegal_or, full_test, is_tested, leaves_gap, meaning}
+use Rattle.layers.specs.Verifying.{Relays, above, stopped, watched}
 
 -- a watchful host decides as one that is not, unless a tested order without offence leaves a gap
 same_rule : (x : Option Offence) (w t g f : Bool) → (x ≡ None → t ≡ true → g ≡ false) →
@@ -93,12 +93,11 @@ passed_answers o s s' v v' r sane e b =
       };
     }
 
--- what the layer relays is what a host answers
-pub relayed_answers : {B : Type 0} (o : Order) (h k : B) (s s' : Situation) (v v' : Service) (r : Answer) → Sane v →
-    (k ≡ h → (s' ≡ s) × (v' ≡ v)) → Relayed o h k (meaning s v) (meaning s' v') r →
-    Answered o (meaning s (watched v)) (meaning s' (watched v')) r
-relayed_answers o h k s s' v v' r sane same a =
-    elim (cases_Bool (stopped o (meaning s v))) [
-      | inl e ↦ let b = a.stops e in let q = same b.0 in rw (b.1, q.0, q.1) (stopped_answers o s v sane e)
-      | inr e ↦ passed_answers o s s' v v' r sane e (a.passes e)
+-- what the layer relays is what a host answers, where what the host below does is
+pub relayed_answers : {B : Type 0} (s : B → Situation) (v : B → Service) (o : Order) (h k : B) (r : Answer) → Sane (v h) →
+    Relays s v (Gives s v) o h k r → Gives s (λ b. watched (v b)) o h k r
+relayed_answers s v o h k r sane a =
+    elim (cases_Bool (stopped o (meaning (s h) (v h)))) [
+      | inl e ↦ let b = a.stops e in rw (b.1, b.0) (stopped_answers o (s h) (v h) sane e)
+      | inr e ↦ passed_answers o (s h) (s k) (v h) (v k) r sane e (a.passes e)
     ]

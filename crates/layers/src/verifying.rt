@@ -1,9 +1,7 @@
 // The verifying layer: a host over another that refuses the changes and unbinds which would leave a gap.
-ghost use Rattle.std.specs.Prelude.{◌≡◌, not, ◌&&◌, is_some, ◌==◌};
-ghost use Rattle.model.specs.declared.order.Order.TheVariants.{Create, Bind, Change, Unbind, Delete};
-ghost use Rattle.hosts.specs.declared.refusal.Reason.TheVariants.{Gap};
+ghost use Rattle.std.specs.Prelude.{◌≡◌, cond, not, ◌&&◌, is_some, Ok, Err, ◌==◌};
 ghost use Rattle.hosts.specs.Answers.{Gives, meaning};
-ghost use Rattle.layers.specs.Verifying.{Relays, above, stopped, watched, watched_sane};
+ghost use Rattle.layers.specs.Verifying.{Relays, above, own_refusal, stopped, watched, watched_sane};
 
 use hosts::host::{Host, give};
 use hosts::load::Load;
@@ -64,30 +62,33 @@ impl<B: Host> Verifying<B> {
         self.below.height().saturating_add(1)
     }
 
-    // The layer's own refusal.
-    fn gap_refusal(&self) -> Refusal
-        ensures { result ≡ record { reason = Gap; height = above (B.service self.now.below).profile.height } }
+    // Stops the order by the layer's own refusal, or lets it pass.
+    fn admit(&self, order: Order) -> Result<(), Refusal>
+        ensures { let m = meaning (B.Survey.situation self.now.below) (B.service self.now.below) in result ≡ cond (stopped order m) (Err (own_refusal m)) (Ok tt) }
     {
-        Refusal {
-            reason: Reason::Gap,
-            height: self.own_height(),
+        if does_stop(&self.below, order) {
+            return Err(Refusal {
+                reason: Reason::Gap,
+                height: self.own_height(),
+            });
         }
+        Ok(())
     }
 
     // Gives the order to the host below, unless the layer stops it.
     fn relay(&mut self, order: Order) -> Result<(), Refusal>
-        ensures { Relays B.Survey.situation B.Host.service order self.old.below self.new.below result }
+        ensures answered { Relays B.Survey.situation B.Host.service (Gives B.Survey.situation B.Host.service) order self.old.below self.new.below result }
+        ensures exact { Relays B.Survey.situation B.Host.service B.Host.does order self.old.below self.new.below result }
     {
-        if does_stop(&self.below, order) {
-            return Err(self.gap_refusal());
-        }
-        give(&mut self.below, order)
+        self.admit(order)?;
+        give(&mut self.below, order)?;
+        Ok(())
     }
 
     // Takes an order: what is relayed is what a host answers.
     fn take(&mut self, order: Order) -> Result<(), Refusal>
         ensures answered { Gives B.Survey.situation (λ h. watched (B.Host.service h)) order self.old.below self.new.below result }
-        ensures relayed { Relays B.Survey.situation B.Host.service order self.old.below self.new.below result }
+        ensures exact { Relays B.Survey.situation B.Host.service B.Host.does order self.old.below self.new.below result }
     {
         self.relay(order)
     }
@@ -124,6 +125,8 @@ impl<B: Host> Host for Verifying<B> {
 
     ghost sane = { λ s. watched_sane (B.Host.service s.below) (B.Host.sane s.below) };
 
+    ghost does = { λ o h k r. Relays B.Survey.situation B.Host.service B.Host.does o h.below k.below r };
+
     fn load(&self) -> Load {
         self.below.load()
     }
@@ -140,39 +143,24 @@ impl<B: Host> Host for Verifying<B> {
         self.own_height()
     }
 
-    // The five orders, each with its clauses; their work is one, `take`.
-    fn create(&mut self, instance: u32, kind: u32) -> Result<(), Refusal>
-        ensures answered { Gives B.Survey.situation (λ h. watched (B.Host.service h)) (Create instance kind) self.old.below self.new.below result }
-        ensures relayed { Relays B.Survey.situation B.Host.service (Create instance kind) self.old.below self.new.below result }
-    {
+    // The work of the five orders is one, `take`.
+    fn create(&mut self, instance: u32, kind: u32) -> Result<(), Refusal> {
         self.take(Order::Create { instance, kind })
     }
 
-    fn bind(&mut self, binding: Binding) -> Result<(), Refusal>
-        ensures answered { Gives B.Survey.situation (λ h. watched (B.Host.service h)) (Bind binding) self.old.below self.new.below result }
-        ensures relayed { Relays B.Survey.situation B.Host.service (Bind binding) self.old.below self.new.below result }
-    {
+    fn bind(&mut self, binding: Binding) -> Result<(), Refusal> {
         self.take(Order::Bind(binding))
     }
 
-    fn change(&mut self, instance: u32, state: u32) -> Result<(), Refusal>
-        ensures answered { Gives B.Survey.situation (λ h. watched (B.Host.service h)) (Change instance state) self.old.below self.new.below result }
-        ensures relayed { Relays B.Survey.situation B.Host.service (Change instance state) self.old.below self.new.below result }
-    {
+    fn change(&mut self, instance: u32, state: u32) -> Result<(), Refusal> {
         self.take(Order::Change { instance, state })
     }
 
-    fn unbind(&mut self, binding: Binding) -> Result<(), Refusal>
-        ensures answered { Gives B.Survey.situation (λ h. watched (B.Host.service h)) (Unbind binding) self.old.below self.new.below result }
-        ensures relayed { Relays B.Survey.situation B.Host.service (Unbind binding) self.old.below self.new.below result }
-    {
+    fn unbind(&mut self, binding: Binding) -> Result<(), Refusal> {
         self.take(Order::Unbind(binding))
     }
 
-    fn delete(&mut self, instance: u32) -> Result<(), Refusal>
-        ensures answered { Gives B.Survey.situation (λ h. watched (B.Host.service h)) (Delete instance) self.old.below self.new.below result }
-        ensures relayed { Relays B.Survey.situation B.Host.service (Delete instance) self.old.below self.new.below result }
-    {
+    fn delete(&mut self, instance: u32) -> Result<(), Refusal> {
         self.take(Order::Delete { instance })
     }
 }

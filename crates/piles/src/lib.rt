@@ -1,12 +1,13 @@
 // Piles of layers over a fresh cloud, as the command `host` makes them.
 #![tactic(auto)]
 
-ghost use Rattle.std.specs.Prelude.{◌≡◌, false, true, IfOk, string_bytes};
+ghost use Rattle.std.specs.Prelude.{◌≡◌, IfOk, string_bytes};
+ghost use Rattle.std.specs.Bool.{⊤};
 ghost use Rattle.universe.specs.Reading.{tables_read};
 ghost use Rattle.universe.specs.Held.{universe_in};
 ghost use Rattle.cloud.specs.Cloud.{cloud_of};
-ghost use Rattle.console.specs.Told.{IfTold};
-ghost use Rattle.piles.specs.Piles.{CommandTold, ReportedFrom, fresh, fresh_cloud_of};
+ghost use Rattle.console.specs.Told.{IfTold, Told};
+ghost use Rattle.piles.specs.Piles.{CommandReported, ReportedFrom, command_text, fresh, fresh_cloud_of, fresh_text};
 
 use cloud::Cloud;
 use console::failure::Failure;
@@ -37,7 +38,8 @@ pub fn pile_report(
     options: HostOptions,
     orders: &[Order],
 ) -> Result<String, AllocError>
-    ensures { IfOk result (λ s. ReportedFrom orders.now (fresh (universe_in universe) options) (string_bytes s)) }
+    ensures exact { IfOk result (λ s. string_bytes s ≡ fresh_text (universe_in universe) options orders.now) }
+    ensures reported { IfOk result (λ s. ReportedFrom orders.now (fresh (universe_in universe) options) (string_bytes s)) }
 {
     let mut cloud = fresh_cloud(universe, options);
     match options.layers {
@@ -58,7 +60,8 @@ pub fn host_command_report(
     options: HostOptions,
     orders: &[Order],
 ) -> Result<String, Failure<String>>
-    ensures { let told = CommandTold orders.now options (tables_read file.now) in IfTold result (λ s. told (string_bytes s) false) (λ s. told (string_bytes s) true) }
+    ensures exact { Told string_bytes string_bytes result (command_text orders.now options (tables_read file.now)) }
+    ensures reported { IfTold result (λ s. CommandReported orders.now options (tables_read file.now) (string_bytes s)) (λ s. ⊤) }
 {
     let universe = read_universe(alloc, file)?;
     Ok(pile_report(alloc, universe, options, orders)?)
