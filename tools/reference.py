@@ -446,6 +446,11 @@ def put_off(times, order, answer):
     return [(order, "21 by 0")] * times + [(order, answer)]
 
 
+def slowly(times, rows):
+    """Each order is put off so many times, then answered."""
+    return [row for order, answer in rows for row in put_off(times, order, answer)]
+
+
 # The lock 0 serves, and the roster 1 or the dispatcher 2 is bound to it.
 LOCK = done("c 0 0/s 0 1")
 ROSTER = done("c 1 1/b 0 0 1")
@@ -491,6 +496,15 @@ DELETES = LOCK + ROSTER + done("s 1 1/c 2 2/b 0 0 2/b 1 1 2") + [
     ("d 0", "29 by 0"), ("d 1", "29 by 0"), ("d 2", "done"), ("d 2", "24 by 0"), ("d 1", "done"), ("c 1 2", "done"),
     ("u 0 0 1", "27 by 0"), ("b 0 0 1", "done"), ("d 1", "done"), ("d 0", "done"), ("d 0", "24 by 0"),
 ]
+
+
+def bound(locks, rosters):
+    """Locks, rosters bound to each of them, and one roster more, for which no binding is left."""
+    numbers = range(locks, locks + rosters)
+    orders = [f"c {z} 0" for z in range(locks)] + [f"c {z} 1" for z in numbers] + [f"b 0 {x} {y}" for y in numbers for x in range(locks)]
+    return [(order, "done") for order in orders + [f"c {numbers.stop} 1"]] + [(f"b 0 {locks - 1} {numbers.stop}", "31 by 0")]
+
+
 # (label, options, [(order, the answer worked out by hand)])
 HOSTS = [
     ("no orders", "256 2048 0 -", []),
@@ -500,6 +514,12 @@ HOSTS = [
     ("every refusal but 21 and 30 on a cloud", "3 2 0 -", EVERY + [("u 0 0 1", "done")]),
     ("every refusal but 21 on a verifying cloud", "3 2 0 v", EVERY + [("u 0 0 1", "30 by 1")]),
     ("every refusal but 21 on a pile of two", "3 2 0 vv", EVERY + [("u 0 0 1", "30 by 2")]),
+    ("every refusal but 30 on a cloud with waits of 2", "3 2 2 -", slowly(2, EVERY + [("u 0 0 1", "done")])),
+    ("every refusal on a verifying cloud with waits of 2", "3 2 2 v", slowly(2, EVERY + [("u 0 0 1", "30 by 1")])),
+    ("every refusal on a pile of two with waits of 2", "3 2 2 vv", slowly(2, EVERY + [("u 0 0 1", "30 by 2")])),
+    ("every refusal but 30 on a cloud with waits of 8", "3 2 8 -", slowly(8, EVERY + [("u 0 0 1", "done")])),
+    ("every refusal on a verifying cloud with waits of 8", "3 2 8 v", slowly(8, EVERY + [("u 0 0 1", "30 by 1")])),
+    ("every refusal on a pile of two with waits of 8", "3 2 8 vv", slowly(8, EVERY + [("u 0 0 1", "30 by 2")])),
     ("busy before all on a cloud", "1 0 2 -", BUSY),
     ("busy before all on a verifying cloud", "1 0 2 v", BUSY),
     ("busy before all on a pile of two", "1 0 2 vv", BUSY),
@@ -520,6 +540,9 @@ HOSTS = [
     ("the largest choices of all", "4294967295 4294967295 4294967295 vv", put_off(8, "c 0 0", "done")),
     ("256 instances", "1000 5000 0 -", [(f"c {z} {z % 3}", "done") for z in range(256)]
         + [("c 255 0", "23 by 0"), ("c 256 0", "22 by 0"), ("d 128", "done"), ("c 128 0", "done"), ("c 128 0", "23 by 0")]),
+    ("256 bindings", "256 256 0 -", bound(2, 128) + [("d 129", "done"), ("c 129 1", "done"), ("b 0 1 129", "done"), ("b 0 0 129", "done"), ("b 0 1 130", "31 by 0")]),
+    ("2048 bindings on a verifying cloud", "256 2048 0 v", bound(16, 128) + [
+        ("s 0 1", "done"), ("u 0 7 100", "done"), ("b 0 7 144", "done"), ("b 0 7 100", "31 by 0")]),
     ("no instance is allowed", "0 0 0 -", [
         ("c 0 0", "31 by 0"), ("c 256 0", "22 by 0"), ("c 0 3", "22 by 0"), ("b 0 0 1", "24 by 0"), ("s 0 1", "24 by 0"),
         ("u 0 0 1", "24 by 0"), ("d 0", "24 by 0"), ("c 255 2", "31 by 0")]),

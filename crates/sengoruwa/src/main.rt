@@ -5,13 +5,13 @@ use console::describe::universe_report;
 use console::failure::Failure;
 use harbour::universe_file;
 use model::order::Order;
-use options::{Fault, Flag, Reason, parse_options, plain_place};
+use options::{Fault, Flag, HostOptions, Layers, Reason, parse_options, plain_place};
 use piles::host_command_report;
 use scripts::{
     NoOrder, PackFault, lines_report, pack_orders, pack_text, parse_orders, refusal_text,
     script_lines,
 };
-use std::alloc::AllocError;
+use std::alloc::{AllocError, Global};
 use std::process::ExitCode;
 use std::{env, fmt, fs, io};
 
@@ -213,6 +213,28 @@ fn host<'a>(rt: &HostRuntime, words: &'a [String]) -> Result<(), Stop<'a>> {
     Ok(rt.print(host_command_report(rt.alloc(), &universe, given.host_options(), &orders)?)?)
 }
 
+// A slow cloud with one layer that refuses gaps.
+const SLOW_HOST: HostOptions = HostOptions {
+    instances: 256,
+    bindings: 2048,
+    delay: 2,
+    layers: Layers::Verifying,
+};
+
+// The orders, with the last one also given before the one before it, and each as often as a slow host needs it to take one.
+fn hasty_orders(alloc: Global, orders: &[Order]) -> Result<Vec<Order>, AllocError> {
+    let mut given = Vec::new(alloc);
+    let [before @ .., serve, release] = orders else {
+        return Ok(given);
+    };
+    for order in before.iter().chain([release, serve, release]) {
+        for _ in 0..=SLOW_HOST.delay {
+            given.push(*order)?;
+        }
+    }
+    Ok(given)
+}
+
 fn demo(rt: &HostRuntime) -> Result<(), Stop<'static>> {
     let alloc = rt.alloc();
     println!(rt; "The harbour universe, read from its file of 68 bytes:")?;
@@ -228,7 +250,11 @@ fn demo(rt: &HostRuntime) -> Result<(), Stop<'static>> {
         "the script of the example cannot be read",
     )))?;
     rt.print(lines_report(alloc, &lines)?)?;
-    Ok(rt.print(pack_text(alloc, lines.len())?)?)
+    rt.print(pack_text(alloc, lines.len())?)?;
+    println!(rt; "The same orders on a slow host under a layer that refuses gaps. The host puts two orders off before each that")?;
+    println!(rt; "it takes, so each is given three times; and the dispatcher's lock is also asked back once too early, refused 30:")?;
+    let given = hasty_orders(alloc, &orders)?;
+    Ok(rt.print(host_command_report(alloc, &universe_file(), SLOW_HOST, &given)?)?)
 }
 
 // Runs the command that the words name.
