@@ -5,12 +5,13 @@ use Rattle.model.specs.declared.order.Order.{Order}
 use Rattle.model.specs.declared.order.Order.TheVariants.{Create, Bind, Change, Unbind, Delete}
 use Rattle.hosts.specs.declared.refusal.Reason.{Reason}
 use Rattle.hosts.specs.Survey.{Lawful}
-use Rattle.hosts.specs.Answers.{Answer, Answered, Decided, decision, full_test}
+use Rattle.hosts.specs.Answers.{Answer, Answered, Decided, Gives, decision, full_test}
 use Rattle.hosts.proofs.Deciding.{put_off_or_not}
 use Rattle.hosts.proofs.Growing.{growth_law}
-use Rattle.table.specs.Table.{Held, applied, load_of, table_rule}
+use Rattle.table.specs.Table.{Held, applied, lawful_of, load_of, table_rule}
 use Rattle.table.proofs.Applying.{no_offence}
-use Rattle.cloud.specs.Cloud.{CloudState, Takes, cloud_after, cloud_answer, cloud_rule, meaning_of}
+use Rattle.cloud.specs.declared.state.Cloud.{Cloud}
+use Rattle.cloud.specs.Cloud.{CloudState, CloudTakes, Takes, cloud_after, cloud_answer, cloud_of, cloud_rule, cloud_service, cloud_situation, meaning_of}
 
 -- whether there is room does not hang on waits
 full_same : (o : Order) (h : Held) (w : ℕ) → full_test o (load_of 0 h) ≡ full_test o (load_of w h)
@@ -64,5 +65,8 @@ answers o k law =
           })
     ]
 
-pub served : (o : Order) (k k' : CloudState) (r : Answer) → Lawful k.held.situation → Takes o k k' r → Answered o (meaning_of k) (meaning_of k') r
-served o k k' r law t = rw (t.answer, t.after) (answers o k law)
+served_state : (o : Order) (k k' : CloudState) (r : Answer) → Lawful k.held.situation → Takes o k k' r → Answered o (meaning_of k) (meaning_of k') r
+served_state o k k' r law t = rw (t.answer, t.after) (answers o k law)
+
+pub served : (o : Order) (h k : Cloud) (r : Answer) → CloudTakes o h k r → Gives cloud_situation cloud_service o h k r
+served o h k r t = served_state o (cloud_of h) (cloud_of k) r (lawful_of h.table) t

@@ -43,10 +43,9 @@ impl Cloud {
         }
     }
 
-    // Takes an order.
-    fn take(&mut self, order: Order) -> Result<(), Refusal>
-        ensures answered { Gives cloud_situation cloud_service order self.old self.new result }
-        ensures exact { CloudTakes order self.old self.new result }
+    // Serves an order: puts it off, or gives it to the table.
+    fn serve(&mut self, order: Order) -> Result<(), Refusal>
+        ensures { CloudTakes order self.old self.new result }
     {
         if self.waits > 0 {
             self.waits -= 1;
@@ -54,6 +53,15 @@ impl Cloud {
         }
         self.waits = self.delay;
         self.table.apply(order).map_err(at_bottom)
+    }
+
+    // Takes an order: what is served is what a host answers.
+    #[tactic(auto, using(crate::proofs::Serving::served))]
+    fn take(&mut self, order: Order) -> Result<(), Refusal>
+        ensures answered { Gives cloud_situation cloud_service order self.old self.new result }
+        ensures exact { CloudTakes order self.old self.new result }
+    {
+        self.serve(order)
     }
 }
 
