@@ -1,5 +1,5 @@
 -- What is reported of a fresh pile. Assumes nothing.
-use Rattle.std.proofs.Common.{◌≡◌, ℕ, List, [], ◌∷◌, ◌++◌, IfOk, string_bytes, Ok, Err, Result, String, true, false, sym, refl, ap, ◌∙◌, inl, inr, append_assoc}
+use Rattle.std.proofs.Common.{◌≡◌, ℕ, List, [], ◌∷◌, ◌++◌, IfOk, string_bytes, Result, String, sym, refl, ap, ◌∙◌, inl, inr, append_assoc}
 use Rattle.std.specs.declared.alloc.AllocError.{AllocError}
 use Rattle.std.specs.declared.alloc.Global.{Global}
 use Rattle.std.proofs.lemmas.Bool.{cases_Bool}
@@ -9,13 +9,11 @@ use Rattle.model.specs.Universe.{Universe}
 use Rattle.hosts.specs.Answers.{Answer, Meaning, meaning}
 use Rattle.hosts.specs.Service.{Service}
 use Rattle.hosts.specs.Survey.{Situation}
-use Rattle.cloud.specs.declared.state.Cloud.{Cloud}
 use Rattle.cloud.specs.Cloud.{CloudState, CloudTakes, cloud_of, cloud_service, cloud_situation}
 use Rattle.layers.specs.declared.verifying.Verifying.{Verifying as Layer}
 use Rattle.layers.specs.Verifying.{Relays, stopped, watched}
-use Rattle.hosting.specs.Hosting.{Told, ToldAll, Reported, order_line_of, survey_line}
+use Rattle.hosting.specs.Hosting.{ToldAll, Reported, order_line_of, survey_line}
 use Rattle.options.specs.declared.HostOptions.{HostOptions}
-use Rattle.options.specs.declared.Layers.{Layers}
 use Rattle.piles.specs.Piles.{Pile, ReportedFrom, bare, fresh, fresh_cloud_of, fresh_text, pile_of, pile_text, verifying}
 
 -- hosts of the type H are the pile p, where s and v tell what a host means, does what it does, and held what the cloud
@@ -51,7 +49,7 @@ module _ {H : Type 0} (s : H → Situation) (v : H → Service) (does : Order �
       let line = t.line ∙ ap (λ r. order_line_of o r (v a.0).load) d.0 ∙ ap (order_line_of o (p.does o (held h)).answer) load in
       ap (λ bs. bs ++ survey_line (s k)) a.5 ∙ append_assoc a.1 a.2 (survey_line (s k)) ∙ ap (λ bs. bs ++ (a.2 ++ survey_line (s k))) line
       ∙ ap (λ bs. order_line_of o (p.does o (held h)).answer (p.means (p.does o (held h)).after).service.load ++ bs)
-        (told_text os a.0 k a.2 a.4 ∙ ap (pile_text p os) d.1)
+      (told_text os a.0 k a.2 a.4 ∙ ap (pile_text p os) d.1)
 
   -- and it is told of a host
   told_host : (os : List Order) (h k : H) (text : List ℕ) → ToldAll s v does os h k text →
@@ -66,8 +64,9 @@ module _ {H : Type 0} (s : H → Situation) (v : H → Service) (does : Order �
       p ≡ pile_of o.layers → held h ≡ fresh_cloud_of u o → IfOk r (λ text. Reported s v does os h k (string_bytes text)) →
       IfOk r (λ text. string_bytes text ≡ fresh_text u o os) × IfOk r (λ text. ReportedFrom os (fresh u o) (string_bytes text))
   fresh_report os u o h k r same opened told =
-      let means = is.means h ∙ ap (λ (q : Pile). q.means (held h)) same ∙ ap (pile_of o.layers).means opened in
-      (IfOk-weaker r _ _
-      (λ text a. a.2 ∙ told_text os h k a.0 a.1 ∙ ap (λ q. pile_text q os (held h)) same ∙ ap (pile_text (pile_of o.layers) os) opened)
-      told,
-      IfOk-weaker r _ _ (λ text a. (meaning (s k) (v k), rw (sym means) (a.0, told_host os h k a.0 a.1, a.2))) told)
+      let means = is.means h ∙ ap (λ (q : Pile). q.means (held h)) same ∙ ap (pile_of o.layers).means opened in (
+        IfOk-weaker r _ _
+            (λ text a. a.2 ∙ told_text os h k a.0 a.1 ∙ ap (λ q. pile_text q os (held h)) same ∙ ap (pile_text (pile_of o.layers) os) opened)
+            told,
+        IfOk-weaker r _ _ (λ text a. (meaning (s k) (v k), rw (sym means) (a.0, told_host os h k a.0 a.1, a.2))) told,
+      )

@@ -251,8 +251,12 @@ fn demo(rt: &HostRuntime) -> Result<(), Stop<'static>> {
     )))?;
     rt.print(lines_report(alloc, &lines)?)?;
     rt.print(pack_text(alloc, lines.len())?)?;
-    println!(rt; "The same orders on a slow host under a layer that refuses gaps. The host puts two orders off before each that")?;
-    println!(rt; "it takes, so each is given three times; and the dispatcher's lock is also asked back once too early, refused 30:")?;
+    println!(rt;
+        "The same orders on a slow host under a layer that refuses gaps. The host puts two orders off before each that"
+    )?;
+    println!(rt;
+        "it takes, so each is given three times; and the dispatcher's lock is also asked back once too early, refused 30:"
+    )?;
     let given = hasty_orders(alloc, &orders)?;
     Ok(rt.print(host_command_report(alloc, &universe_file(), SLOW_HOST, &given)?)?)
 }
