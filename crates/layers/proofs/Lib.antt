@@ -1,1 +1,2 @@
+pub mod Cleanness
 pub mod Relaying

@@ -1,4 +1,5 @@
 // Layers: hosts that stand over others.
 #![tactic(auto)]
 
+mod state;
 pub mod verifying;

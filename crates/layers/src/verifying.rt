@@ -1,8 +1,12 @@
 // The verifying layer: a host over another that refuses the changes and unbinds which would leave a gap.
-ghost use Rattle.std.specs.Prelude.{◌≡◌, cond, not, ◌&&◌, is_some, Ok, Err, ◌==◌};
-ghost use Rattle.hosts.specs.Answers.{Gives, meaning};
+ghost use Rattle.std.specs.Prelude.{◌≡◌, cond, false, not, ◌&&◌, is_some, None, Ok, Err, ◌==◌};
+ghost use Rattle.model.specs.Bounded.{any_gap};
+ghost use Rattle.hosts.specs.Answers.{Gives, is_tested as is_tested_order, meaning};
+ghost use Rattle.rules.specs.Finding.{foreseen};
+ghost use Rattle.rules.specs.Opening.{offence_foreseen};
 ghost use Rattle.layers.specs.Verifying.{Relays, above, own_refusal, stopped, watched, watched_sane};
 
+pub use crate::state::Verifying;
 use hosts::host::{Host, give};
 use hosts::load::Load;
 use hosts::refusal::{Offence, Reason, Refusal};
@@ -10,14 +14,9 @@ use hosts::survey::Survey;
 use model::binding::Binding;
 use model::order::Order;
 use model::pair::Pair;
-use rules::gaps::{Prospect, find_gap};
+use rules::gaps::{Prospect, find_gap, opens_gap};
 use rules::legality::{change_offence, unbind_offence};
 use universe::held::Universe;
-
-#[derive(Drop)]
-pub struct Verifying<B> {
-    below: B,
-}
 
 // Whether the host below would neither put the order off nor find an offence in it.
 fn is_admitted<B: Host>(host: &B, offence: Option<Offence>) -> bool
@@ -26,8 +25,28 @@ fn is_admitted<B: Host>(host: &B, offence: Option<Offence>) -> bool
     host.load().waits == 0 && offence.is_none()
 }
 
+// Whether the order is one that is tested for gaps.
+fn is_tested(order: Order) -> bool
+    ensures { result ≡ is_tested_order order }
+{
+    matches!(order, Order::Change { .. } | Order::Unbind(_))
+}
+
+// Whether what is foreseen at the host would leave a gap, where the order that is foreseen has no offence.
+fn would_leave_gap<B: Host>(host: &B, is_clean: bool, prospect: Prospect) -> bool
+    requires { (is_clean && any_gap 256 (B.Survey.situation host.now).universe (B.Survey.situation host.now).config) ≡ false }
+    ensures { offence_foreseen prospect (B.Survey.situation host.now) ≡ None → result ≡ any_gap 256 (B.Survey.situation host.now).universe (foreseen prospect (B.Survey.situation host.now).config) }
+{
+    if is_clean {
+        opens_gap(host, prospect)
+    } else {
+        find_gap(host, prospect).is_some()
+    }
+}
+
 // Whether the layer over the host stops the order: it would leave a gap, and nothing else refuses it before.
-fn does_stop<B: Host>(host: &B, order: Order) -> bool
+fn does_stop<B: Host>(host: &B, is_clean: bool, order: Order) -> bool
+    requires { (is_clean && any_gap 256 (B.Survey.situation host.now).universe (B.Survey.situation host.now).config) ≡ false }
     ensures { result ≡ stopped order (meaning (B.Survey.situation host.now) (B.service host.now)) }
 {
     match order {
@@ -36,12 +55,12 @@ fn does_stop<B: Host>(host: &B, order: Order) -> bool
                 && {
                     // `as`: a state without offence is at most 7.
                     let state = state as u8;
-                    find_gap(host, Prospect::Changed { instance, state }).is_some()
+                    would_leave_gap(host, is_clean, Prospect::Changed { instance, state })
                 }
         }
         Order::Unbind(binding) => {
             is_admitted(host, unbind_offence(host, binding))
-                && find_gap(host, Prospect::Unbound(binding)).is_some()
+                && would_leave_gap(host, is_clean, Prospect::Unbound(binding))
         }
         Order::Create { .. } | Order::Bind(_) | Order::Delete { .. } => false,
     }
@@ -52,7 +71,10 @@ impl<B: Host> Verifying<B> {
     pub fn over(below: B) -> Self
         ensures { result.below ≡ below }
     {
-        Verifying { below }
+        Verifying {
+            below,
+            is_clean: false,
+        }
     }
 
     // The height of the layer: one more than below, held at 255.
@@ -66,7 +88,7 @@ impl<B: Host> Verifying<B> {
     fn admit(&self, order: Order) -> Result<(), Refusal>
         ensures { let m = meaning (B.Survey.situation self.now.below) (B.service self.now.below) in result ≡ cond (stopped order m) (Err (own_refusal m)) (Ok tt) }
     {
-        if does_stop(&self.below, order) {
+        if does_stop(&self.below, self.is_clean, order) {
             return Err(Refusal {
                 reason: Reason::Gap,
                 height: self.own_height(),
@@ -76,12 +98,14 @@ impl<B: Host> Verifying<B> {
     }
 
     // Gives the order to the host below, unless the layer stops it.
+    #[tactic(auto, using(crate::proofs::Cleanness::clean_after))]
     fn relay(&mut self, order: Order) -> Result<(), Refusal>
         ensures answered { Relays B.Survey.situation B.Host.service (Gives B.Survey.situation B.Host.service) order self.old.below self.new.below result }
         ensures exact { Relays B.Survey.situation B.Host.service B.Host.does order self.old.below self.new.below result }
     {
         self.admit(order)?;
         give(&mut self.below, order)?;
+        self.is_clean |= is_tested(order);
         Ok(())
     }
 

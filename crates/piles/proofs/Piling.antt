@@ -10,7 +10,6 @@ use Rattle.hosts.specs.Answers.{Answer, Meaning, meaning}
 use Rattle.hosts.specs.Service.{Service}
 use Rattle.hosts.specs.Survey.{Situation}
 use Rattle.cloud.specs.Cloud.{CloudState, CloudTakes, cloud_of, cloud_service, cloud_situation}
-use Rattle.layers.specs.declared.verifying.Verifying.{Verifying as Layer}
 use Rattle.layers.specs.Verifying.{Relays, stopped, watched}
 use Rattle.hosting.specs.Hosting.{ToldAll, Reported, order_line_of, survey_line}
 use Rattle.options.specs.declared.HostOptions.{HostOptions}
@@ -28,14 +27,15 @@ cloud_is = record { means = λ h. refl; outcome = λ o h k r t. (t.answer, t.aft
 
 module _ {H : Type 0} (s : H → Situation) (v : H → Service) (does : Order → H → H → Answer → Type 0) (held : H → CloudState) (p : Pile) (is : IsPile s v does held p) where
   -- a layer over a pile is the pile with one layer more
-  pub layer_is : IsPile (λ (k : Layer H). s k.below) (λ k. watched (v k.below)) (λ o h k r. Relays s v does o h.below k.below r) (λ k. held k.below) (verifying p)
-  layer_is = record {
-    means = λ h. ap (λ (m : Meaning). meaning m.situation (watched m.service)) (is.means h.below);
+  pub layer_is : {K : Type 0} (below : K → H) →
+      IsPile (λ k. s (below k)) (λ k. watched (v (below k))) (λ o h k r. Relays s v does o (below h) (below k) r) (λ k. held (below k)) (verifying p)
+  layer_is below = record {
+    means = λ h. ap (λ (m : Meaning). meaning m.situation (watched m.service)) (is.means (below h));
     outcome = λ o h k r a.
-        rw (sym (is.means h.below))
-        (elim (cases_Bool (stopped o (meaning (s h.below) (v h.below)))) [
+        rw (sym (is.means (below h)))
+        (elim (cases_Bool (stopped o (meaning (s (below h)) (v (below h))))) [
           | inl e ↦ rw e (let b = a.stops e in (b.1, ap held b.0))
-          | inr e ↦ rw e (is.outcome o h.below k.below r (a.passes e))
+          | inr e ↦ rw e (is.outcome o (below h) (below k) r (a.passes e))
         ]);
   }
 

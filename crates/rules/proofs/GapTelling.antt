@@ -57,13 +57,13 @@ module _ (u : Universe) (c : Config) where
 
   module _ (ok : Valid u) (low : Below 256 c) where
     -- nothing found for an instance: it has no gap
-    of_none : (z : ℕ) → first_gap_at u c z ≡ None → (p : ℕ) → Gap u c z p → ⊥
+    pub of_none : (z : ℕ) → first_gap_at u c z ≡ None → (p : ℕ) → Gap u c z p → ⊥
     unfolding first_gap_at
     of_none z e p g =
         here_not z p (first_no (gap_here u c z) p u.ports e (gap_low 256 u c ok low z p g).1) g
 
     -- what is found for an instance is its first gap
-    of_some : (z : ℕ) (g : FoundGap) → first_gap_at u c z ≡ Some g →
+    pub of_some : (z : ℕ) (g : FoundGap) → first_gap_at u c z ≡ Some g →
         (g.instance ≡ z) × Gap u c z g.port × ((p : ℕ) → p < g.port → Gap u c z p → ⊥)
     unfolding first_gap_at
     of_some z g e =

@@ -1,2 +1,3 @@
 pub mod Foreseeing
 pub mod GapTelling
+pub mod Opened

@@ -1,2 +1,3 @@
 pub mod Ports
 pub mod Finding
+pub mod Opening

@@ -4,6 +4,7 @@ ghost use Rattle.model.specs.Bounded.{covered, gap_at};
 ghost use Rattle.rules.specs.declared.ports.Role.TheVariants.{Provider, Requirer};
 ghost use Rattle.rules.specs.Ports.{now_has};
 ghost use Rattle.rules.specs.Finding.{Finds, first_gap_at, foreseen, viewed};
+ghost use Rattle.rules.specs.Opening.{OpensAll, bares, lets_down, loses, opens};
 
 use crate::ports::{Role, has_port, ports};
 use hosts::survey::Survey;
@@ -115,6 +116,55 @@ impl<S: Survey> View<'_, S> {
             .map(|port| FoundGap { instance, port })
     }
 
+    // Whether the instance has the port to give, and would have it no more.
+    fn would_lose(&self, port: u32, instance: u32) -> bool
+        ensures { result ≡ loses (viewed S.situation self.now).universe (S.situation self.now.survey.now).config (viewed S.situation self.now).config instance port }
+    {
+        let now = View {
+            survey: self.survey,
+            prospect: Prospect::Present,
+        };
+        now.has_port(Role::Provider, port, instance)
+            && !self.has_port(Role::Provider, port, instance)
+    }
+
+    // Whether some instance that is bound to this one on the port would have a gap there.
+    fn would_bare(&self, port: u32, instance: u32) -> bool
+        ensures { result ≡ bares (viewed S.situation self.now).universe (viewed S.situation self.now).config instance port }
+    {
+        (0..256).any(|requirer| {
+            self.has_port(Role::Requirer, port, requirer)
+                && self.is_bound(Binding {
+                    port,
+                    provider: instance,
+                    requirer,
+                })
+                && !self.is_covered(port, requirer)
+        })
+    }
+
+    // Whether losing a port that it has to give would leave a gap at some instance that is bound to this one.
+    fn would_let_down(&self, instance: u32) -> bool
+        ensures { result ≡ lets_down (viewed S.situation self.now).universe (S.situation self.now.survey.now).config (viewed S.situation self.now).config instance }
+    {
+        (0..ports(self.survey))
+            .any(|port| self.would_lose(port, instance) && self.would_bare(port, instance))
+    }
+
+    // Whether a gap would open, where what stands has none.
+    #[tactic(auto, unfolding(crate::specs::Opening::opens))]
+    fn opens_gap(&self) -> bool
+        ensures { result ≡ opens self.now.prospect (S.situation self.now.survey.now).universe (S.situation self.now.survey.now).config }
+    {
+        match self.prospect {
+            Prospect::Present => self.first_gap().is_some(),
+            Prospect::Changed { instance, .. } => {
+                self.first_gap_of(instance).is_some() || self.would_let_down(instance)
+            }
+            Prospect::Unbound(binding) => self.has_gap(binding.port, binding.requirer),
+        }
+    }
+
     // The first gap that there would be. Inlined, as `find_gap`: each caller then has a search of its own for what it
     // foresees, which takes a quarter less time.
     #[inline(always)]
@@ -131,4 +181,14 @@ pub fn find_gap<S: Survey>(survey: &S, prospect: Prospect) -> Option<FoundGap>
     ensures { Finds (S.situation survey.now).universe (foreseen prospect (S.situation survey.now).config) result }
 {
     View { survey, prospect }.first_gap()
+}
+
+// Whether what is foreseen opens a gap. It looks only where the order can open one, and takes what stands to be gap-free; so
+// it is quicker than the search for the first gap.
+#[tactic(auto, using(crate::proofs::Opened::opens_all))]
+pub fn opens_gap<S: Survey>(survey: &S, prospect: Prospect) -> bool
+    ensures value { result ≡ opens prospect (S.situation survey.now).universe (S.situation survey.now).config }
+    ensures all { OpensAll (S.situation survey.now) prospect result }
+{
+    View { survey, prospect }.opens_gap()
 }
