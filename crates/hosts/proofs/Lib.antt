@@ -1,3 +1,4 @@
 pub mod Offending
 pub mod Growing
+pub mod Heights
 pub mod Deciding

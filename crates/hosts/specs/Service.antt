@@ -1,5 +1,5 @@
 -- What a host means besides what stands in it.
-use Rattle.std.specs.Prelude.{ℕ, ◌≤◌, Bool}
+use Rattle.std.specs.Prelude.{ℕ, ◌+◌, ◌≤◌, min, Bool}
 use Rattle.hosts.specs.declared.load.Load.{Load}
 
 -- what no call alters
@@ -19,3 +19,7 @@ pub record Service : Type 0 where
 pub record Sane (v : Service) : Type 0 where
   pub waits : v.load.waits ≤ v.profile.longest
   pub height : v.profile.height ≤ 255
+
+-- the height of a layer over a host of the height h: one more, held at 255
+abbrev pub above : ℕ → ℕ
+above h = min (h + 1) 255

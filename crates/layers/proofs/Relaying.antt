@@ -1,15 +1,16 @@
 -- The answers of the verifying layer are those of a host. Assumes nothing.
-use Rattle.std.proofs.Common.{◌≡◌, ℕ, ◌≤◌, Bool, true, false, not, ◌&&◌, eqb, is_some, Some, None, Ok, Err, Option, sym, refl, ap, ◌∙◌, inl, inr, true≢false, arith}
+use Rattle.std.proofs.Common.{◌≡◌, Bool, true, false, not, ◌&&◌, eqb, is_some, Some, None, Err, Option, sym, refl, ap, ◌∙◌, inl, inr, true≢false, arith}
 use Rattle.std.proofs.lemmas.Bool.{and_from, and_parts, both_ways, cases_Bool, eq-eqb, eqb-true}
 use Rattle.model.specs.declared.order.Order.{Order}
 use Rattle.model.proofs.Searches.{refuted}
 use Rattle.hosts.specs.declared.refusal.Offence.{Offence}
 use Rattle.hosts.specs.declared.refusal.Reason.TheVariants.{Gap, Full}
 use Rattle.hosts.specs.Survey.{Situation}
-use Rattle.hosts.specs.Service.{Profile, Sane, Service}
+use Rattle.hosts.specs.Service.{Profile, Sane, Service, above}
 use Rattle.hosts.specs.Offences.{offence, refused_if}
-use Rattle.hosts.specs.Answers.{Answer, Answered, Gives, Meaning, UpTo, decision, illegal_or, full_test, is_tested, leaves_gap, meaning}
-use Rattle.layers.specs.Verifying.{Relays, above, stopped, watched}
+use Rattle.hosts.specs.Answers.{Answer, Answered, Gives, Meaning, decision, illegal_or, full_test, is_tested, leaves_gap, meaning}
+use Rattle.hosts.proofs.Heights.{up_to}
+use Rattle.layers.specs.Verifying.{Relays, stopped, watched}
 
 -- a watchful host decides as one that is not, unless a tested order without offence leaves a gap
 same_rule : (x : Option Offence) (w t g f : Bool) → (x ≡ None → t ≡ true → g ≡ false) →
@@ -54,11 +55,6 @@ module _ (o : Order) (s : Situation) (v : Service) where
       refuted (leaves_gap o s) (λ gap.
       both_ways (stopped o (meaning s v)) e
       (and_from _ _ tested (and_from _ _ (and_from _ _ (eq-eqb _ _ w) (no_offence (offence o s) none)) gap))))
-
--- a refusal from below comes from a lower layer
-up_to : (h : ℕ) (r : Answer) → h ≤ 255 → UpTo h r → UpTo (above h) r
-up_to h (Ok x) l u = tt
-up_to h (Err e) l u = omega arith
 
 -- where the layer stops the order, it answers as a watchful host
 stopped_answers : (o : Order) (s : Situation) (v : Service) → Sane v → stopped o (meaning s v) ≡ true →

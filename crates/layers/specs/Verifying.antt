@@ -1,17 +1,13 @@
 -- The verifying layer, in terms of the host below.
-use Rattle.std.specs.Prelude.{◌≡◌, ℕ, ◌+◌, min, Bool, true, false, not, ◌&&◌, is_some, Err, ◌==◌}
+use Rattle.std.specs.Prelude.{◌≡◌, Bool, true, false, not, ◌&&◌, is_some, Err, ◌==◌}
 use Rattle.std.proofs.Common.{arith}
 use Rattle.model.specs.declared.order.Order.{Order}
 use Rattle.hosts.specs.declared.refusal.Reason.TheVariants.{Gap}
 use Rattle.hosts.specs.declared.refusal.Refusal.{Refusal}
 use Rattle.hosts.specs.Survey.{Situation}
-use Rattle.hosts.specs.Service.{Service, Sane}
+use Rattle.hosts.specs.Service.{Service, Sane, above}
 use Rattle.hosts.specs.Offences.{offence}
 use Rattle.hosts.specs.Answers.{Meaning, Answer, is_tested, leaves_gap, meaning}
-
--- one more than below, held at 255
-abbrev pub above : ℕ → ℕ
-above h = min (h + 1) 255
 
 -- watchful and one layer higher; all else as below
 abbrev pub watched : Service → Service

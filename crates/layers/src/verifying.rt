@@ -4,7 +4,8 @@ ghost use Rattle.model.specs.Bounded.{any_gap};
 ghost use Rattle.hosts.specs.Answers.{Gives, is_tested as is_tested_order, meaning};
 ghost use Rattle.rules.specs.Finding.{foreseen};
 ghost use Rattle.rules.specs.Opening.{offence_foreseen};
-ghost use Rattle.layers.specs.Verifying.{Relays, above, own_refusal, stopped, watched, watched_sane};
+ghost use Rattle.hosts.specs.Service.{above};
+ghost use Rattle.layers.specs.Verifying.{Relays, own_refusal, stopped, watched, watched_sane};
 
 pub use crate::state::Verifying;
 use hosts::host::{Host, give};
@@ -97,15 +98,24 @@ impl<B: Host> Verifying<B> {
         Ok(())
     }
 
+    // Gives the order, which the layer does not stop, to the host below. If it was tested for gaps and is done, there are none.
+    fn pass_on(&mut self, order: Order) -> Result<(), Refusal>
+        requires { stopped order (meaning (B.Survey.situation self.old.below) (B.Host.service self.old.below)) ≡ false }
+        ensures answered { Gives B.Survey.situation B.Host.service order self.old.below self.new.below result }
+        ensures exact { B.Host.does order self.old.below self.new.below result }
+    {
+        give(&mut self.below, order)?;
+        self.is_clean |= is_tested(order);
+        Ok(())
+    }
+
     // Gives the order to the host below, unless the layer stops it.
-    #[tactic(auto, using(crate::proofs::Cleanness::clean_after))]
     fn relay(&mut self, order: Order) -> Result<(), Refusal>
         ensures answered { Relays B.Survey.situation B.Host.service (Gives B.Survey.situation B.Host.service) order self.old.below self.new.below result }
         ensures exact { Relays B.Survey.situation B.Host.service B.Host.does order self.old.below self.new.below result }
     {
         self.admit(order)?;
-        give(&mut self.below, order)?;
-        self.is_clean |= is_tested(order);
+        self.pass_on(order)?;
         Ok(())
     }
 

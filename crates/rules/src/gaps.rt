@@ -165,9 +165,7 @@ impl<S: Survey> View<'_, S> {
         }
     }
 
-    // The first gap that there would be. Inlined, as `find_gap`: each caller then has a search of its own for what it
-    // foresees, which takes a quarter less time.
-    #[inline(always)]
+    // The first gap that there would be.
     fn first_gap(&self) -> Option<FoundGap>
         ensures { Finds (viewed S.situation self.now).universe (viewed S.situation self.now).config result }
     {
@@ -176,7 +174,6 @@ impl<S: Survey> View<'_, S> {
 }
 
 // The first gap of what is foreseen, by instance and then by port.
-#[inline(always)]
 pub fn find_gap<S: Survey>(survey: &S, prospect: Prospect) -> Option<FoundGap>
     ensures { Finds (S.situation survey.now).universe (foreseen prospect (S.situation survey.now).config) result }
 {

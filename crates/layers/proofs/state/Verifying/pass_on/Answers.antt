@@ -1,7 +1,7 @@
 use Rattle.std.proofs.Common.{rules}
 use Rattle.hosts.specs.Answers.{meaning}
 use Rattle.layers.proofs.Cleanness.{clean_after}
-use Rattle.layers.proofs.state.Verifying.relay.Goals as goal
+use Rattle.layers.proofs.state.Verifying.pass_on.Goals as goal
 
 pub invariant_of-self-2 : goal.invariant_of-self-2
 invariant_of-self-2 g c =
