@@ -1,5 +1,5 @@
 -- The search for gaps only where a change or an unbind can open one.
-use Rattle.std.specs.Prelude.{◌≡◌, ℕ, Bool, true, false, not, ◌&&◌, ◌||◌, is_some, None, Option}
+use Rattle.std.specs.Prelude.{◌≡◌, ℕ, Bool, false, not, ◌&&◌, ◌||◌, is_some, None, Option}
 use Rattle.model.specs.declared.order.Order.TheVariants.{Change, Unbind}
 use Rattle.model.specs.Search.{any}
 use Rattle.model.specs.Universe.{Universe}

@@ -147,8 +147,8 @@ impl<S: Survey> View<'_, S> {
     fn would_let_down(&self, instance: u32) -> bool
         ensures { result ≡ lets_down (viewed S.situation self.now).universe (S.situation self.now.survey.now).config (viewed S.situation self.now).config instance }
     {
-        (0..ports(self.survey))
-            .any(|port| self.would_lose(port, instance) && self.would_bare(port, instance))
+        (0..ports(self.survey)).any(|port| self.would_lose(port, instance)
+            && self.would_bare(port, instance))
     }
 
     // Whether a gap would open, where what stands has none.
