@@ -505,6 +505,27 @@ def bound(locks, rosters):
     return [(order, "done") for order in orders + [f"c {numbers.stop} 1"]] + [(f"b 0 {locks - 1} {numbers.stop}", "31 by 0")]
 
 
+
+# Limits of 0, 1 and 2 with waits of 0, 2 and 8 on every pile, and of 256: so many creates or binds are done, and one more is
+# refused. With 256 instances every further create is of a number that is out of range (22) or stands (23).
+PILES = [("a cloud", "-"), ("a verifying cloud", "v"), ("a pile of two", "vv")]
+CREATED = done("c 0 0/c 1 1/c 2 2")
+BOUND = done("b 0 0 1/b 0 0 2/b 0 0 3")
+LIMITS = [
+    row
+    for pile, layers in PILES for wait in (0, 2, 8) for most in (0, 1, 2)
+    for row in (
+        (f"{most} instances with waits of {wait} on {pile}", f"{most} 2048 {wait} {layers}",
+            slowly(wait, CREATED[:most] + [(CREATED[most][0], "31 by 0")])),
+        (f"{most} bindings with waits of {wait} on {pile}", f"256 {most} {wait} {layers}",
+            slowly(wait, done("c 0 0/c 1 1/c 2 1/c 3 1") + BOUND[:most] + [(BOUND[most][0], "31 by 0")])),
+    )
+] + [
+    (f"256 bindings on {pile}", f"256 256 0 {layers}", bound(2, 128) + [
+        ("d 129", "done"), ("c 129 1", "done"), ("b 0 1 129", "done"), ("b 0 0 129", "done"), ("b 0 1 130", "31 by 0")])
+    for pile, layers in PILES
+]
+
 # (label, options, [(order, the answer worked out by hand)])
 HOSTS = [
     ("no orders", "256 2048 0 -", []),
@@ -540,7 +561,6 @@ HOSTS = [
     ("the largest choices of all", "4294967295 4294967295 4294967295 vv", put_off(8, "c 0 0", "done")),
     ("256 instances", "1000 5000 0 -", [(f"c {z} {z % 3}", "done") for z in range(256)]
         + [("c 255 0", "23 by 0"), ("c 256 0", "22 by 0"), ("d 128", "done"), ("c 128 0", "done"), ("c 128 0", "23 by 0")]),
-    ("256 bindings", "256 256 0 -", bound(2, 128) + [("d 129", "done"), ("c 129 1", "done"), ("b 0 1 129", "done"), ("b 0 0 129", "done"), ("b 0 1 130", "31 by 0")]),
     ("2048 bindings on a verifying cloud", "256 2048 0 v", bound(16, 128) + [
         ("s 0 1", "done"), ("u 0 7 100", "done"), ("b 0 7 144", "done"), ("b 0 7 100", "31 by 0")]),
     ("no instance is allowed", "0 0 0 -", [
@@ -594,7 +614,7 @@ HOSTS = [
     ("the accident on a verifying cloud", "256 2048 0 v", BUILT + [("u 0 0 2", "30 by 1")] + done("s 2 2/u 0 0 2")),
     ("the accident on a pile of two", "256 2048 0 vv", BUILT + [("u 0 0 2", "30 by 2")] + done("s 2 2/u 0 0 2")),
     ("the wrong binding given up on a verifying cloud", "256 2048 0 v", BUILT + done("s 2 2") + [("u 1 1 2", "30 by 1"), ("u 0 0 1", "30 by 1")]),
-]
+] + LIMITS
 # One type: state 1 follows 0, and provides and requires port 0. Only here can 25 come for the ends alone.
 ALONE = bytes.fromhex("0820" "20" "000000000000000040" "800000008000000000")
 PAIR = done("c 0 0") + [("b 0 0 0", "25 by 0")] + done("c 1 0/b 0 0 1/b 0 1 0") + [("b 0 0 0", "25 by 0"), ("b 0 1 1", "25 by 0")]

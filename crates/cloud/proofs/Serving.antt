@@ -1,5 +1,5 @@
 -- The answers of the cloud are those of a host. Assumes nothing.
-use Rattle.std.proofs.Common.{◌≡◌, ℕ, Some, None, Option, sym, refl, ◌∙◌, inl, inr, arith}
+use Rattle.std.proofs.Common.{◌≡◌, ℕ, ◌≤◌, Some, None, Option, sym, refl, ◌∙◌, inl, inr, arith}
 use Rattle.std.proofs.lemmas.Bool.{le-ltb, lt-ltb}
 use Rattle.model.specs.declared.order.Order.{Order}
 use Rattle.model.specs.declared.order.Order.TheVariants.{Create, Bind, Change, Unbind, Delete}
@@ -50,12 +50,12 @@ decided o k (Some x) law e =
     }
 
 -- what the cloud answers is what a host answers
-answers : (o : Order) (k : CloudState) → Lawful k.held.situation → Answered o (meaning_of k) (meaning_of (cloud_after o k)) (cloud_answer (cloud_rule o k))
-answers o k law =
+answers : (o : Order) (k : CloudState) → Lawful k.held.situation → k.waits ≤ k.delay → Answered o (meaning_of k) (meaning_of (cloud_after o k)) (cloud_answer (cloud_rule o k))
+answers o k law most =
     elim (put_off_or_not k.waits) [
       | inl l ↦ rw (lt-ltb 0 k.waits l)
           (record {
-            busy = λ p. record { answer = refl; after = refl; height = omega arith };
+            busy = λ p. record { answer = refl; after = refl; free = record { waits = omega arith; creations = omega arith; bindings = omega arith; height = omega arith } };
             decided = λ w. absurd (omega arith);
           })
       | inr w ↦ rw (le-ltb 0 k.waits (omega arith))
@@ -65,8 +65,8 @@ answers o k law =
           })
     ]
 
-served_state : (o : Order) (k k' : CloudState) (r : Answer) → Lawful k.held.situation → Takes o k k' r → Answered o (meaning_of k) (meaning_of k') r
-served_state o k k' r law t = rw (t.answer, t.after) (answers o k law)
+served_state : (o : Order) (k k' : CloudState) (r : Answer) → Lawful k.held.situation → k.waits ≤ k.delay → Takes o k k' r → Answered o (meaning_of k) (meaning_of k') r
+served_state o k k' r law most t = rw (t.answer, t.after) (answers o k law most)
 
 pub served : (o : Order) (h k : Cloud) (r : Answer) → CloudTakes o h k r → Gives cloud_situation cloud_service o h k r
-served o h k r t = served_state o (cloud_of h) (cloud_of k) r (lawful_of h.table) t
+served o h k r t = served_state o (cloud_of h) (cloud_of k) r (lawful_of h.table) h.bounds t

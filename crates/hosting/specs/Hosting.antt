@@ -36,7 +36,7 @@ end_line_of instances bindings gap_free =
 abbrev pub survey_line : Situation → List ℕ
 survey_line s = end_line_of (instances_of s) (bindings_of s) (not (any_gap 256 s.universe s.config))
 
--- s and v tell what a host means, and does what it does
+-- s and v tell what a host means, and `does` just what it does
 module _ {H : Type 0} (s : H → Situation) (v : H → Service) (does : Order → H → H → Answer → Type 0) where
   -- the text tells of the order: the host h gave some answer and became k, by the relation of hosts and just as it does,
   -- and the text is the order's line with that answer, and with the waits and the allowances that the host then had

@@ -13,7 +13,7 @@ use Rattle.model.specs.Bounded.{Below}
 use Rattle.model.proofs.Searches.{refuted, any_found, any_none_of, any_some}
 use Rattle.model.proofs.Results.{passes_some, create_off, create_bound, bind_inst, bind_cases, change_off, change_bound, unbind_inst, unbind_was, delete_at, delete_off, delete_was}
 use Rattle.hosts.specs.Survey.{Situation, Lawful}
-use Rattle.hosts.specs.Offences.{refused_if, standing, strays, loose, unfit, follows, provider_test, offence}
+use Rattle.hosts.specs.Offences.{refused_if, standing, out_of_range, lacks_end, unfit, follows, provider_test, offence}
 use Rattle.hosts.specs.Laws.{InRange, LegalLaw, LawfulLaw}
 
 -- nothing refuses: this test does not, nor does what follows
@@ -43,25 +43,25 @@ module _ (s : Situation) (law : Lawful s) where
   u = s.universe
 
   -- a binding's numbers are in range
-  not_strays : (p x y : ℕ) → strays s p x y ≡ false → (p < u.ports) × (x < 256) × (y < 256)
-  not_strays p x y e =
+  in_range : (p x y : ℕ) → out_of_range s p x y ≡ false → (p < u.ports) × (x < 256) × (y < 256)
+  in_range p x y e =
       let a = or_parts (ltb 255 x || ltb 255 y) (leb u.ports p) e in
       let b = or_parts (ltb 255 x) (ltb 255 y) a.0 in
       (leb-false u.ports p a.1, omega (arith, ltb-false 255 x b.0), omega (arith, ltb-false 255 y b.1))
 
-  no_strays : (p x y : ℕ) → p < u.ports → x < 256 → y < 256 → strays s p x y ≡ false
-  no_strays p x y lp lx ly =
+  range_in : (p x y : ℕ) → p < u.ports → x < 256 → y < 256 → out_of_range s p x y ≡ false
+  range_in p x y lp lx ly =
       or_from _ _ (or_from _ _ (le-ltb 255 x (omega arith)) (le-ltb 255 y (omega arith))) (lt-leb u.ports p lp)
 
-  no_loose : (x y : ℕ) → stands (c.inst x) ≡ true → stands (c.inst y) ≡ true → loose s x y ≡ false
-  no_loose x y ex ey = not_from_true _ (and_from _ _ ex ey)
+  ends_there : (x y : ℕ) → stands (c.inst x) ≡ true → stands (c.inst y) ≡ true → lacks_end s x y ≡ false
+  ends_there x y ex ey = not_from_true _ (and_from _ _ ex ey)
 
   -- the ends and the port of a binding without offence
   pub bind_range : (j : Binding) → offence (Bind j) s ≡ None → (j.port < u.ports) × (j.provider < 256) × (j.requirer < 256)
-  bind_range j h = not_strays j.port j.provider j.requirer (none_if (strays s j.port j.provider j.requirer) _ _ h).0
+  bind_range j h = in_range j.port j.provider j.requirer (none_if (out_of_range s j.port j.provider j.requirer) _ _ h).0
 
   pub unbind_range : (j : Binding) → offence (Unbind j) s ≡ None → (j.port < u.ports) × (j.provider < 256) × (j.requirer < 256)
-  unbind_range j h = not_strays j.port j.provider j.requirer (none_if (strays s j.port j.provider j.requirer) _ _ h).0
+  unbind_range j h = in_range j.port j.provider j.requirer (none_if (out_of_range s j.port j.provider j.requirer) _ _ h).0
 
   -- the state of a change without offence
   pub change_range : (z q : ℕ) → offence (Change z q) s ≡ None → (z < 256) × (q < 8)
@@ -89,13 +89,13 @@ module _ (s : Situation) (law : Lawful s) where
       let d = none_if (standing s z) _ None a.1 in
       ((d.0, leb-false u.types t b.1), omega (arith, ltb-false 255 z b.0))
   offence_none (Bind j) h =
-      let a = none_if (strays s j.port j.provider j.requirer) _ _ h in
-      let b = none_if (loose s j.provider j.requirer) _ _ a.1 in
+      let a = none_if (out_of_range s j.port j.provider j.requirer) _ _ h in
+      let b = none_if (lacks_end s j.provider j.requirer) _ _ a.1 in
       let d = none_if (unfit s j.port j.provider j.requirer) _ _ b.1 in
       let e = none_if (c.bound j.port j.provider j.requirer) _ None d.1 in
       let f = or_parts (eqb j.provider j.requirer || not (ever_provides u j.port (c.inst j.provider))) (not (ever_requires u j.port (c.inst j.requirer))) d.0 in
       let g = or_parts (eqb j.provider j.requirer) (not (ever_provides u j.port (c.inst j.provider))) f.0 in
-      let r = not_strays j.port j.provider j.requirer a.0 in
+      let r = in_range j.port j.provider j.requirer a.0 in
       (record { apart = eqb-false j.provider j.requirer g.0; provider = not-false _ g.1; requirer = not-false _ f.1; new = e.0 }, (r.1, r.2))
   offence_none (Change z q) h =
       let a = none_if (ltb 255 z || ltb 7 q) _ _ h in
@@ -103,10 +103,10 @@ module _ (s : Situation) (law : Lawful s) where
       let d = none_if (not (follows s z q)) _ None b.1 in
       (not-false _ d.0, omega (arith, ltb-false 255 z (or_parts (ltb 255 z) (ltb 7 q) a.0).0))
   offence_none (Unbind j) h =
-      let a = none_if (strays s j.port j.provider j.requirer) _ _ h in
-      let b = none_if (loose s j.provider j.requirer) _ _ a.1 in
+      let a = none_if (out_of_range s j.port j.provider j.requirer) _ _ h in
+      let b = none_if (lacks_end s j.provider j.requirer) _ _ a.1 in
       let d = none_if (not (c.bound j.port j.provider j.requirer)) _ None b.1 in
-      let r = not_strays j.port j.provider j.requirer a.0 in
+      let r = in_range j.port j.provider j.requirer a.0 in
       (not-false _ d.0, (r.1, r.2))
   offence_none (Delete z) h =
       let a = none_if (ltb 255 z) _ _ h in
@@ -118,8 +118,8 @@ module _ (s : Situation) (law : Lawful s) where
   pub none_offence : WellFormed u c → (o : Order) → Legal u c o → InRange o → offence o s ≡ None
   none_offence wf (Create z t) l low = if_none _ _ _ (or_from _ _ (le-ltb 255 z (omega arith)) (lt-leb u.types t l.1)) (if_none _ _ _ l.0 refl)
   none_offence wf (Bind j) l low =
-      if_none _ _ _ (no_strays j.port j.provider j.requirer (ever_provided u law.valid j.port (c.inst j.provider) l.provider) low.0 low.1)
-      (if_none _ _ _ (no_loose j.provider j.requirer (passes_stands (c.inst j.provider) _ l.provider) (passes_stands (c.inst j.requirer) _ l.requirer))
+      if_none _ _ _ (range_in j.port j.provider j.requirer (ever_provided u law.valid j.port (c.inst j.provider) l.provider) low.0 low.1)
+      (if_none _ _ _ (ends_there j.provider j.requirer (passes_stands (c.inst j.provider) _ l.provider) (passes_stands (c.inst j.requirer) _ l.requirer))
       (if_none _ _ _ (or_from _ _ (or_from _ _ (ne_eqb j.provider j.requirer l.apart) (not_from_true _ l.provider)) (not_from_true _ l.requirer))
       (if_none _ _ _ l.new refl)))
   none_offence wf (Change z q) l low =
@@ -130,8 +130,8 @@ module _ (s : Situation) (law : Lawful s) where
       (if_none _ _ _ (not_from_true _ (passes_stands (c.inst z) _ l))
       (if_none _ _ _ (not_from_true _ l) refl))
   none_offence wf (Unbind j) l low =
-      if_none _ _ _ (no_strays j.port j.provider j.requirer (law.bound j.port j.provider j.requirer l).0 low.0 low.1)
-      (if_none _ _ _ (no_loose j.provider j.requirer (passes_stands (c.inst j.provider) _ (wf.providers j.port j.provider j.requirer l)) (passes_stands (c.inst j.requirer) _ (wf.requirers j.port j.provider j.requirer l)))
+      if_none _ _ _ (range_in j.port j.provider j.requirer (law.bound j.port j.provider j.requirer l).0 low.0 low.1)
+      (if_none _ _ _ (ends_there j.provider j.requirer (passes_stands (c.inst j.provider) _ (wf.providers j.port j.provider j.requirer l)) (passes_stands (c.inst j.requirer) _ (wf.requirers j.port j.provider j.requirer l)))
       (if_none _ _ _ (not_from_true _ l) refl))
   none_offence wf (Delete z) l low =
       if_none _ _ _ (le-ltb 255 z (omega arith))

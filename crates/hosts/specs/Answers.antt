@@ -3,12 +3,11 @@ use Rattle.std.specs.Prelude.{◌≡◌, ℕ, ◌+◌, ◌-◌, ◌<◌, ◌≤�
 use Rattle.model.specs.declared.order.Order.{Order}
 use Rattle.model.specs.declared.order.Order.TheVariants.{Create, Bind, Change, Unbind, Delete}
 use Rattle.model.specs.Orders.{result_of}
-use Rattle.model.specs.Bounded.{any_gap}
 use Rattle.hosts.specs.declared.refusal.Offence.{Offence}
 use Rattle.hosts.specs.declared.refusal.Reason.{Reason}
 use Rattle.hosts.specs.declared.refusal.Reason.TheVariants.{Busy, Illegal, Gap, Full}
 use Rattle.hosts.specs.declared.refusal.Refusal.{Refusal}
-use Rattle.hosts.specs.Survey.{Situation}
+use Rattle.hosts.specs.Survey.{Situation, has_gap}
 use Rattle.hosts.specs.declared.load.Load.{Load}
 use Rattle.hosts.specs.Service.{Service}
 use Rattle.hosts.specs.Offences.{refused_if, offence}
@@ -71,7 +70,7 @@ full_test (Delete z) l = false
 
 -- some instance has a gap in the result of the order
 abbrev pub leaves_gap : Order → Situation → Bool
-leaves_gap o s = any_gap 256 s.universe (result_of o s.config)
+leaves_gap o s = has_gap (record { universe = s.universe; config = result_of o s.config })
 
 -- the offence as a reason, if there is one, else what follows
 abbrev pub illegal_or : Option Offence → Option Reason → Option Reason
@@ -107,7 +106,7 @@ waited_once m =
 abbrev pub Spent : Bool → ℕ → ℕ → Type 0
 Spent spent before after = before ≤ after + cond spent 1 0
 
--- what is free: waits afterwards are some number up to the longest wait, only a done create lowers the creation
+-- what is free, in every answer: waits afterwards are some number up to the longest wait, only a done create lowers the creation
 -- allowance and only a done bind the binding allowance, and a refusal comes from a layer at most as high as the host
 pub record Free (o : Order) (m n : Meaning) (r : Answer) : Type 0 where
   pub waits : n.service.load.waits ≤ m.service.profile.longest
@@ -116,10 +115,10 @@ pub record Free (o : Order) (m n : Meaning) (r : Answer) : Type 0 where
   pub height : UpTo m.service.profile.height r
 
 -- the order is put off: busy, one order fewer to put off, and all else as it was
-pub record PutOff (m n : Meaning) (r : Answer) : Type 0 where
+pub record PutOff (o : Order) (m n : Meaning) (r : Answer) : Type 0 where
   pub answer : reason_of r ≡ Some Busy
   pub after : n ≡ waited_once m
-  pub height : UpTo m.service.profile.height r
+  pub free : Free o m n r
 
 -- the order is decided: done exactly if no rule refuses it, else refused by the first that does; a done order leads
 -- to its result, a refused one leaves what stood; universe, longest wait, watchful and height never change
@@ -131,7 +130,7 @@ pub record Decided (o : Order) (m n : Meaning) (r : Answer) : Type 0 where
 
 -- what an order does: put off while waits are above 0, else decided
 pub record Answered (o : Order) (m n : Meaning) (r : Answer) : Type 0 where
-  pub busy : 0 < m.service.load.waits → PutOff m n r
+  pub busy : 0 < m.service.load.waits → PutOff o m n r
   pub decided : m.service.load.waits ≡ 0 → Decided o m n r
 
 -- the order leads from the host h to the host k with this answer, where s and v tell what a host means

@@ -24,12 +24,12 @@ create_offence_of s z t =
     None)
 
 -- bind and unbind: an end, or the port, is out of range
-abbrev pub strays : Situation → ℕ → ℕ → ℕ → Bool
-strays s p x y = nat_lt 255 x || nat_lt 255 y || nat_le s.universe.ports p
+abbrev pub out_of_range : Situation → ℕ → ℕ → ℕ → Bool
+out_of_range s p x y = nat_lt 255 x || nat_lt 255 y || nat_le s.universe.ports p
 
 -- bind and unbind: an end does not stand
-abbrev pub loose : Situation → ℕ → ℕ → Bool
-loose s x y = not (standing s x && standing s y)
+abbrev pub lacks_end : Situation → ℕ → ℕ → Bool
+lacks_end s x y = not (standing s x && standing s y)
 
 -- bind: the ends are one, or their types never have the port
 abbrev pub unfit : Situation → ℕ → ℕ → ℕ → Bool
@@ -38,8 +38,8 @@ unfit s p x y =
 
 abbrev pub bind_offence_of : Situation → ℕ → ℕ → ℕ → Option Offence
 bind_offence_of s p x y =
-    refused_if (strays s p x y) OutOfRange
-    (refused_if (loose s x y) NotStanding
+    refused_if (out_of_range s p x y) OutOfRange
+    (refused_if (lacks_end s x y) NotStanding
     (refused_if (unfit s p x y) Unfit
     (refused_if (s.config.bound p x y) Bound
     None)))
@@ -57,8 +57,8 @@ change_offence_of s z q =
 
 abbrev pub unbind_offence_of : Situation → ℕ → ℕ → ℕ → Option Offence
 unbind_offence_of s p x y =
-    refused_if (strays s p x y) OutOfRange
-    (refused_if (loose s x y) NotStanding
+    refused_if (out_of_range s p x y) OutOfRange
+    (refused_if (lacks_end s x y) NotStanding
     (refused_if (not (s.config.bound p x y)) Unbound
     None))
 

@@ -20,6 +20,6 @@ pub record Sane (v : Service) : Type 0 where
   pub waits : v.load.waits ≤ v.profile.longest
   pub height : v.profile.height ≤ 255
 
--- the height of a layer over a host of the height h: one more, held at 255
+-- the height over a host of the height h: one more, held at 255
 abbrev pub above : ℕ → ℕ
 above h = min (h + 1) 255

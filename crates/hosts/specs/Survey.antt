@@ -1,7 +1,8 @@
 -- Surveys: what a survey means, and the one law that every survey keeps.
-use Rattle.std.specs.Prelude.{◌≡◌, ℕ, ◌<◌, ◌≤◌, true, None}
+use Rattle.std.specs.Prelude.{◌≡◌, ℕ, ◌<◌, ◌≤◌, Bool, true, None}
 use Rattle.model.specs.Universe.{Universe, Valid}
 use Rattle.model.specs.Config.{Config}
+use Rattle.model.specs.Bounded.{any_gap}
 use Rattle.model.specs.Counts.{instances, bindings}
 
 -- a universe, and the configuration that stands
@@ -15,6 +16,10 @@ pub record Lawful (s : Situation) : Type 0 where
   pub valid : Valid s.universe
   pub inst : (z : ℕ) → 256 ≤ z → s.config.inst z ≡ None
   pub bound : (p x y : ℕ) → s.config.bound p x y ≡ true → (p < s.universe.ports) × (x < 256) × (y < 256)
+
+-- some instance that stands has a gap
+abbrev pub has_gap : Situation → Bool
+has_gap s = any_gap 256 s.universe s.config
 
 -- how many instances stand
 abbrev pub instances_of : Situation → ℕ

@@ -1,2 +1,2 @@
-pub mod Cleanness
+pub mod Passing
 pub mod Relaying

@@ -8,7 +8,7 @@ use Rattle.hosts.specs.declared.refusal.Reason.TheVariants.{Gap, Full}
 use Rattle.hosts.specs.Survey.{Situation}
 use Rattle.hosts.specs.Service.{Profile, Sane, Service, above}
 use Rattle.hosts.specs.Offences.{offence, refused_if}
-use Rattle.hosts.specs.Answers.{Answer, Answered, Gives, Meaning, decision, illegal_or, full_test, is_tested, leaves_gap, meaning}
+use Rattle.hosts.specs.Answers.{Answer, Answered, Free, Gives, Meaning, decision, illegal_or, full_test, is_tested, leaves_gap, meaning}
 use Rattle.hosts.proofs.Heights.{up_to}
 use Rattle.layers.specs.Verifying.{Relays, stopped, watched}
 
@@ -79,15 +79,18 @@ passed_answers o s s' v v' r sane e b =
       busy = λ l. let p = b.busy l in record {
         answer = p.answer;
         after = ap (λ (k : Meaning). meaning k.situation (watched k.service)) p.after;
-        height = up_to _ r sane.height p.height;
+        free = raised p.free;
       };
-      decided = λ w. let d = b.decided w in let f = d.free in record {
+      decided = λ w. let d = b.decided w in record {
         answer = d.answer ∙ rule_below o s v e w;
         situation = d.situation;
         profile = ap (λ (k : Profile). record { longest = k.longest; watchful = true; height = above k.height }) d.profile;
-        free = record { waits = f.waits; creations = f.creations; bindings = f.bindings; height = up_to _ r sane.height f.height };
+        free = raised d.free;
       };
     }
+  where
+    raised : Free o (meaning s v) (meaning s' v') r → Free o (meaning s (watched v)) (meaning s' (watched v')) r
+    raised f = record { waits = f.waits; creations = f.creations; bindings = f.bindings; height = up_to _ r sane.height f.height }
 
 -- what the layer relays is what a host answers, where what the host below does is
 pub relayed_answers : {B : Type 0} (s : B → Situation) (v : B → Service) (o : Order) (h k : B) (r : Answer) → Sane (v h) →

@@ -1,6 +1,6 @@
 // What the verifying layer holds.
 ghost use Rattle.std.specs.Prelude.{◌≡◌, false, ◌&&◌};
-ghost use Rattle.model.specs.Bounded.{any_gap};
+ghost use Rattle.hosts.specs.Survey.{has_gap};
 
 use hosts::host::Host;
 
@@ -8,6 +8,6 @@ use hosts::host::Host;
 #[derive(Drop)]
 pub struct Verifying<B: Host> {
     pub(crate) below: B,
-    pub(crate) is_clean: bool,
-    ghost clean: { (is_clean && any_gap 256 (B.Survey.situation below).universe (B.Survey.situation below).config) ≡ false },
+    pub(crate) is_gap_free: bool,
+    ghost gap_free: { (is_gap_free && has_gap (B.Survey.situation below)) ≡ false },
 }

@@ -1,6 +1,7 @@
 // The verifying layer: a host over another that refuses the changes and unbinds which would leave a gap.
 ghost use Rattle.std.specs.Prelude.{◌≡◌, cond, false, not, ◌&&◌, is_some, None, Ok, Err, ◌==◌};
 ghost use Rattle.model.specs.Bounded.{any_gap};
+ghost use Rattle.hosts.specs.Survey.{has_gap};
 ghost use Rattle.hosts.specs.Answers.{Gives, is_tested as is_tested_order, meaning};
 ghost use Rattle.rules.specs.Finding.{foreseen};
 ghost use Rattle.rules.specs.Opening.{offence_foreseen};
@@ -34,11 +35,11 @@ fn is_tested(order: Order) -> bool
 }
 
 // Whether what is foreseen at the host would leave a gap, where the order that is foreseen has no offence.
-fn would_leave_gap<B: Host>(host: &B, is_clean: bool, prospect: Prospect) -> bool
-    requires { (is_clean && any_gap 256 (B.Survey.situation host.now).universe (B.Survey.situation host.now).config) ≡ false }
+fn would_leave_gap<B: Host>(host: &B, is_gap_free: bool, prospect: Prospect) -> bool
+    requires { (is_gap_free && has_gap (B.Survey.situation host.now)) ≡ false }
     ensures { offence_foreseen prospect (B.Survey.situation host.now) ≡ None → result ≡ any_gap 256 (B.Survey.situation host.now).universe (foreseen prospect (B.Survey.situation host.now).config) }
 {
-    if is_clean {
+    if is_gap_free {
         opens_gap(host, prospect)
     } else {
         find_gap(host, prospect).is_some()
@@ -46,8 +47,8 @@ fn would_leave_gap<B: Host>(host: &B, is_clean: bool, prospect: Prospect) -> boo
 }
 
 // Whether the layer over the host stops the order: it would leave a gap, and nothing else refuses it before.
-fn does_stop<B: Host>(host: &B, is_clean: bool, order: Order) -> bool
-    requires { (is_clean && any_gap 256 (B.Survey.situation host.now).universe (B.Survey.situation host.now).config) ≡ false }
+fn does_stop<B: Host>(host: &B, is_gap_free: bool, order: Order) -> bool
+    requires { (is_gap_free && has_gap (B.Survey.situation host.now)) ≡ false }
     ensures { result ≡ stopped order (meaning (B.Survey.situation host.now) (B.service host.now)) }
 {
     match order {
@@ -56,12 +57,12 @@ fn does_stop<B: Host>(host: &B, is_clean: bool, order: Order) -> bool
                 && {
                     // `as`: a state without offence is at most 7.
                     let state = state as u8;
-                    would_leave_gap(host, is_clean, Prospect::Changed { instance, state })
+                    would_leave_gap(host, is_gap_free, Prospect::Changed { instance, state })
                 }
         }
         Order::Unbind(binding) => {
             is_admitted(host, unbind_offence(host, binding))
-                && would_leave_gap(host, is_clean, Prospect::Unbound(binding))
+                && would_leave_gap(host, is_gap_free, Prospect::Unbound(binding))
         }
         Order::Create { .. } | Order::Bind(_) | Order::Delete { .. } => false,
     }
@@ -74,7 +75,7 @@ impl<B: Host> Verifying<B> {
     {
         Verifying {
             below,
-            is_clean: false,
+            is_gap_free: false,
         }
     }
 
@@ -89,7 +90,7 @@ impl<B: Host> Verifying<B> {
     fn admit(&self, order: Order) -> Result<(), Refusal>
         ensures { let m = meaning (B.Survey.situation self.now.below) (B.service self.now.below) in result ≡ cond (stopped order m) (Err (own_refusal m)) (Ok tt) }
     {
-        if does_stop(&self.below, self.is_clean, order) {
+        if does_stop(&self.below, self.is_gap_free, order) {
             return Err(Refusal {
                 reason: Reason::Gap,
                 height: self.own_height(),
@@ -105,7 +106,7 @@ impl<B: Host> Verifying<B> {
         ensures exact { B.Host.does order self.old.below self.new.below result }
     {
         give(&mut self.below, order)?;
-        self.is_clean |= is_tested(order);
+        self.is_gap_free |= is_tested(order);
         Ok(())
     }
 

@@ -13,7 +13,7 @@ use Rattle.cloud.specs.Cloud.{CloudState, CloudTakes, cloud_of, cloud_service, c
 use Rattle.layers.specs.Verifying.{Relays, stopped, watched}
 use Rattle.hosting.specs.Hosting.{ToldAll, Reported, order_line_of, survey_line}
 use Rattle.options.specs.declared.HostOptions.{HostOptions}
-use Rattle.piles.specs.Piles.{Pile, ReportedFrom, bare, fresh, fresh_cloud_of, fresh_text, pile_of, pile_text, verifying}
+use Rattle.piles.specs.Piles.{Pile, ReportedFrom, cloud_alone, fresh, fresh_cloud_of, fresh_text, pile_of, pile_text, verifying}
 
 -- hosts of the type H are the pile p, where s and v tell what a host means, does what it does, and held what the cloud
 -- at the bottom holds
@@ -22,7 +22,7 @@ pub record IsPile {H : Type 0} (s : H → Situation) (v : H → Service) (does :
   pub outcome : (o : Order) (h k : H) (r : Answer) → does o h k r → (r ≡ (p.does o (held h)).answer) × (held k ≡ (p.does o (held h)).after)
 
 -- the cloud is the pile with no layer
-pub cloud_is : IsPile cloud_situation cloud_service CloudTakes cloud_of bare
+pub cloud_is : IsPile cloud_situation cloud_service CloudTakes cloud_of cloud_alone
 cloud_is = record { means = λ h. refl; outcome = λ o h k r t. (t.answer, t.after) }
 
 module _ {H : Type 0} (s : H → Situation) (v : H → Service) (does : Order → H → H → Answer → Type 0) (held : H → CloudState) (p : Pile) (is : IsPile s v does held p) where

@@ -38,8 +38,8 @@ pub record Pile : Type 0 where
   pub does : Order → CloudState → Outcome
 
 -- the cloud alone
-abbrev pub bare : Pile
-bare = record {
+abbrev pub cloud_alone : Pile
+cloud_alone = record {
   means = meaning_of;
   does = λ o k. record { answer = cloud_answer (cloud_rule o k); after = cloud_after o k };
 }
@@ -53,9 +53,9 @@ verifying p = record {
 
 -- the layers over a cloud
 abbrev pub pile_of : Layers → Pile
-pile_of None = bare
-pile_of Verifying = verifying bare
-pile_of VerifyingTwice = verifying (verifying bare)
+pile_of None = cloud_alone
+pile_of Verifying = verifying cloud_alone
+pile_of VerifyingTwice = verifying (verifying cloud_alone)
 
 -- what a fresh pile means
 abbrev pub fresh : Universe → HostOptions → Meaning

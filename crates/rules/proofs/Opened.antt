@@ -20,7 +20,7 @@ use Rattle.rules.specs.declared.gaps.FoundGap.{FoundGap}
 use Rattle.rules.specs.declared.gaps.Prospect.{Prospect}
 use Rattle.rules.specs.declared.gaps.Prospect.TheVariants.{Present, Changed, Unbound}
 use Rattle.rules.specs.Finding.{first_gap_at}
-use Rattle.rules.specs.Opening.{OpensAll, bares, lets_down, loses, opens}
+use Rattle.rules.specs.Opening.{OpensAll, uncovers_at, uncovers, loses, opens}
 use Rattle.rules.proofs.Foreseeing.{foreseen_below}
 use Rattle.rules.proofs.GapTelling.{of_none, of_some}
 
@@ -75,20 +75,20 @@ module _ (s : Situation) (law : Lawful s) (none : any_gap 256 s.universe s.confi
     own_found None e p g = absurd (of_none u d law.valid low z (sym e) p g)
     own_found (Some a) e p g = refl
 
-    let_down : lets_down u c d z ≡ true → any_gap 256 u d ≡ true
-    let_down e =
-        let r = any_some (λ p. loses u c d z p && bares u d z p) u.ports e in
+    uncovered : uncovers u c d z ≡ true → any_gap 256 u d ≡ true
+    uncovered e =
+        let r = any_some (λ p. loses u c d z p && uncovers_at u d z p) u.ports e in
         let b = any_some (λ y. required u r.0 (d.inst y) && d.bound r.0 z y && not (covered 256 u d y r.0)) 256 (and_parts (loses u c d z r.0) _ r.2).1 in
         let t = and_parts (required u r.0 (d.inst b.0) && d.bound r.0 z b.0) _ b.2 in
         whole b.0 r.0 (gap_of_parts u d b.0 r.0 (and_parts (required u r.0 (d.inst b.0)) _ t.0).0 t.1)
 
-    let_down_found : (y p : ℕ) → Gap u d y p → (c.bound p z y && (provided u p (c.inst z) && not (provided u p (moved (c.inst z) q)))) ≡ true → lets_down u c d z ≡ true
-    let_down_found y p g e =
+    uncovered_found : (y p : ℕ) → Gap u d y p → (c.bound p z y && (provided u p (c.inst z) && not (provided u p (moved (c.inst z) q)))) ≡ true → uncovers u c d z ≡ true
+    uncovered_found y p g e =
         let l = gap_low 256 u d law.valid low y p g in
         let a = and_parts (c.bound p z y) _ e in
         let b = and_parts (provided u p (c.inst z)) _ a.1 in
         let t = gap_parts u d y p (gap_passes 256 u d y p g) in
-        any_found (λ p. loses u c d z p && bares u d z p) p u.ports l.1
+        any_found (λ p. loses u c d z p && uncovers_at u d z p) p u.ports l.1
         (and_from (loses u c d z p) _
         (and_from (provided u p (c.inst z)) _ b.0 (ap (λ o. not (provided u p o)) (change_at c z q) ∙ b.1))
         (any_found (λ y. required u p (d.inst y) && d.bound p z y && not (covered 256 u d y p)) y 256 l.0
@@ -97,16 +97,16 @@ module _ (s : Situation) (law : Lawful s) (none : any_gap 256 s.universe s.confi
     changed : offence (Change z q) s ≡ None → opens (Changed z q) u c ≡ any_gap 256 u d
     unfolding opens
     changed legal =
-        equal (is_some (first_gap_at u d z) || lets_down u c d z) (any_gap 256 u d)
-        (λ e. elim (or_cases (is_some (first_gap_at u d z)) (lets_down u c d z) e) [
+        equal (is_some (first_gap_at u d z) || uncovers u c d z) (any_gap 256 u d)
+        (λ e. elim (or_cases (is_some (first_gap_at u d z)) (uncovers u c d z) e) [
           | inl a ↦ own (first_gap_at u d z) refl a
-          | inr b ↦ let_down b
+          | inr b ↦ uncovered b
         ])
         (λ e.
         let r = found_gap 256 u d low e in
         elim (opening_law u c (Change z q) law.valid free (offence_none s law (Change z q) legal).0 r.0 r.1 r.2) [
           | inl a ↦ or_left _ _ (own_found (first_gap_at u d z) refl r.1 (same_gap u d r.0 r.1 z r.1 a refl r.2))
-          | inr b ↦ or_right _ _ (let_down_found r.0 r.1 r.2 b)
+          | inr b ↦ or_right _ _ (uncovered_found r.0 r.1 r.2 b)
         ])
 
   unbound : (j : Binding) → offence (Unbind j) s ≡ None → opens (Unbound j) u c ≡ any_gap 256 u (result_of (Unbind j) c)

@@ -4,7 +4,7 @@ ghost use Rattle.model.specs.Bounded.{covered, gap_at};
 ghost use Rattle.rules.specs.declared.ports.Role.TheVariants.{Provider, Requirer};
 ghost use Rattle.rules.specs.Ports.{now_has};
 ghost use Rattle.rules.specs.Finding.{Finds, first_gap_at, foreseen, viewed};
-ghost use Rattle.rules.specs.Opening.{OpensAll, bares, lets_down, loses, opens};
+ghost use Rattle.rules.specs.Opening.{OpensAll, uncovers_at, uncovers, loses, opens};
 
 use crate::ports::{Role, has_port, ports};
 use hosts::survey::Survey;
@@ -129,8 +129,8 @@ impl<S: Survey> View<'_, S> {
     }
 
     // Whether some instance that is bound to this one on the port would have a gap there.
-    fn would_bare(&self, port: u32, instance: u32) -> bool
-        ensures { result ≡ bares (viewed S.situation self.now).universe (viewed S.situation self.now).config instance port }
+    fn would_uncover_at(&self, port: u32, instance: u32) -> bool
+        ensures { result ≡ uncovers_at (viewed S.situation self.now).universe (viewed S.situation self.now).config instance port }
     {
         (0..256).any(|requirer| {
             self.has_port(Role::Requirer, port, requirer)
@@ -144,11 +144,11 @@ impl<S: Survey> View<'_, S> {
     }
 
     // Whether losing a port that it has to give would leave a gap at some instance that is bound to this one.
-    fn would_let_down(&self, instance: u32) -> bool
-        ensures { result ≡ lets_down (viewed S.situation self.now).universe (S.situation self.now.survey.now).config (viewed S.situation self.now).config instance }
+    fn would_uncover(&self, instance: u32) -> bool
+        ensures { result ≡ uncovers (viewed S.situation self.now).universe (S.situation self.now.survey.now).config (viewed S.situation self.now).config instance }
     {
         (0..ports(self.survey)).any(|port| self.would_lose(port, instance)
-            && self.would_bare(port, instance))
+            && self.would_uncover_at(port, instance))
     }
 
     // Whether a gap would open, where what stands has none.
@@ -159,7 +159,7 @@ impl<S: Survey> View<'_, S> {
         match self.prospect {
             Prospect::Present => self.first_gap().is_some(),
             Prospect::Changed { instance, .. } => {
-                self.first_gap_of(instance).is_some() || self.would_let_down(instance)
+                self.first_gap_of(instance).is_some() || self.would_uncover(instance)
             }
             Prospect::Unbound(binding) => self.has_gap(binding.port, binding.requirer),
         }

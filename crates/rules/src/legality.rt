@@ -1,7 +1,7 @@
 // The offences of orders against legality, by a survey's questions. Whether an instance is a provider of any
 // binding is no question of a survey, so a delete is judged where the bindings are kept.
 ghost use Rattle.std.specs.Prelude.{◌≡◌};
-ghost use Rattle.hosts.specs.Offences.{bind_offence_of, change_offence_of, create_offence_of, follows, loose, standing, strays, unbind_offence_of, unfit};
+ghost use Rattle.hosts.specs.Offences.{bind_offence_of, change_offence_of, create_offence_of, follows, lacks_end, standing, out_of_range, unbind_offence_of, unfit};
 
 use crate::ports::{Role, ever_has_port, ports};
 use hosts::refusal::Offence;
@@ -23,16 +23,16 @@ fn types<S: Survey>(survey: &S) -> u32
 }
 
 // Whether an end or the port of a binding is out of range.
-fn is_stray<S: Survey>(survey: &S, binding: Binding) -> bool
-    ensures { result ≡ strays (S.situation survey.now) binding.port binding.provider binding.requirer }
+fn is_out_of_range<S: Survey>(survey: &S, binding: Binding) -> bool
+    ensures { result ≡ out_of_range (S.situation survey.now) binding.port binding.provider binding.requirer }
 {
     let ports = ports(survey);
     binding.provider > 255 || binding.requirer > 255 || binding.port >= ports
 }
 
 // Whether an end of a binding does not stand.
-fn is_loose<S: Survey>(survey: &S, binding: Binding) -> bool
-    ensures { result ≡ loose (S.situation survey.now) binding.provider binding.requirer }
+fn does_lack_end<S: Survey>(survey: &S, binding: Binding) -> bool
+    ensures { result ≡ lacks_end (S.situation survey.now) binding.provider binding.requirer }
 {
     !(is_standing(survey, binding.provider) && is_standing(survey, binding.requirer))
 }
@@ -75,10 +75,10 @@ pub fn create_offence<S: Survey>(survey: &S, instance: u32, kind: u32) -> Option
 pub fn bind_offence<S: Survey>(survey: &S, binding: Binding) -> Option<Offence>
     ensures { result ≡ bind_offence_of (S.situation survey.now) binding.port binding.provider binding.requirer }
 {
-    if is_stray(survey, binding) {
+    if is_out_of_range(survey, binding) {
         return Some(Offence::OutOfRange);
     }
-    if is_loose(survey, binding) {
+    if does_lack_end(survey, binding) {
         return Some(Offence::NotStanding);
     }
     if is_unfit(survey, binding) {
@@ -110,10 +110,10 @@ pub fn change_offence<S: Survey>(survey: &S, instance: u32, state: u32) -> Optio
 pub fn unbind_offence<S: Survey>(survey: &S, binding: Binding) -> Option<Offence>
     ensures { result ≡ unbind_offence_of (S.situation survey.now) binding.port binding.provider binding.requirer }
 {
-    if is_stray(survey, binding) {
+    if is_out_of_range(survey, binding) {
         return Some(Offence::OutOfRange);
     }
-    if is_loose(survey, binding) {
+    if does_lack_end(survey, binding) {
         return Some(Offence::NotStanding);
     }
     if !survey.is_bound(binding) {

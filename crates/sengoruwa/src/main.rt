@@ -222,7 +222,7 @@ const SLOW_HOST: HostOptions = HostOptions {
 };
 
 // The orders, with the last one also given before the one before it, and each as often as a slow host needs it to take one.
-fn hasty_orders(alloc: Global, orders: &[Order]) -> Result<Vec<Order>, AllocError> {
+fn orders_with_one_early(alloc: Global, orders: &[Order]) -> Result<Vec<Order>, AllocError> {
     let mut given = Vec::new(alloc);
     let [before @ .., serve, release] = orders else {
         return Ok(given);
@@ -252,12 +252,13 @@ fn demo(rt: &HostRuntime) -> Result<(), Stop<'static>> {
     rt.print(lines_report(alloc, &lines)?)?;
     rt.print(pack_text(alloc, lines.len())?)?;
     println!(rt;
-        "The same orders on a slow host under a layer that refuses gaps. The host puts two orders off before each that"
+        "The same orders on a slow host, a cloud that puts two orders off before each that it takes, under a layer that"
     )?;
     println!(rt;
-        "it takes, so each is given three times; and the dispatcher's lock is also asked back once too early, refused 30:"
+        "refuses gaps. So each is given three times. The last one is also given too early: the layer refuses it (30), and"
     )?;
-    let given = hasty_orders(alloc, &orders)?;
+    println!(rt; "the cloud below, which was not asked, takes the next order at once:")?;
+    let given = orders_with_one_early(alloc, &orders)?;
     Ok(rt.print(host_command_report(alloc, &universe_file(), SLOW_HOST, &given)?)?)
 }
 

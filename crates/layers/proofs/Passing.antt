@@ -7,21 +7,16 @@ use Rattle.model.specs.declared.order.Order.TheVariants.{Create, Bind, Change, U
 use Rattle.model.specs.Universe.{Universe}
 use Rattle.model.specs.Config.{Config}
 use Rattle.model.specs.Orders.{result_of}
-use Rattle.model.specs.Bounded.{any_gap}
 use Rattle.model.specs.Laws.{Opens}
 use Rattle.model.proofs.GapSearch.{search_law}
 use Rattle.model.proofs.Openings.{opening_law}
 use Rattle.model.proofs.Searches.{refuted}
-use Rattle.hosts.specs.Survey.{Situation, Lawful}
+use Rattle.hosts.specs.Survey.{Situation, Lawful, has_gap}
 use Rattle.hosts.specs.Offences.{offence}
 use Rattle.hosts.specs.Answers.{Answered, Meaning, is_tested}
 use Rattle.hosts.proofs.Deciding.{done_law}
 use Rattle.hosts.proofs.Offending.{lawful_below, lawful_law, offence_none}
 use Rattle.layers.specs.Verifying.{stopped}
-
--- some instance of what stands has a gap
-abbrev gaps : Situation → Bool
-gaps s = any_gap 256 s.universe s.config
 
 -- only a tested order opens gaps
 opens_none : (u : Universe) (c : Config) (o : Order) (z p : ℕ) → is_tested o ≡ false → Opens u c o z p → ⊥
@@ -36,27 +31,27 @@ module _ (o : Order) (s : Situation) (law : Lawful s) (legal : offence o s ≡ N
   after = record { universe = s.universe; config = result_of o s.config }
 
   -- an order that is not tested keeps what stands gap-free
-  untested : is_tested o ≡ false → gaps s ≡ false → gaps after ≡ false
+  untested : is_tested o ≡ false → has_gap s ≡ false → has_gap after ≡ false
   untested e none =
       let free = (search_law 256 s.universe s.config law.valid (lawful_below s law)).0 none in
       (search_law 256 s.universe after.config law.valid (lawful_below after (lawful_law s o law legal))).1
       (λ z p g. opens_none s.universe s.config o z p e (opening_law s.universe s.config o law.valid free (offence_none s law o legal).0 z p g))
 
 -- an order that the layer does not stop is done: where gaps were tested for, or where there were none, there are none
-pub clean_after : (o : Order) (m n : Meaning) (clean tested : Bool) → Lawful m.situation → tested ≡ is_tested o →
-    (clean && gaps m.situation) ≡ false → stopped o m ≡ false → Answered o m n (Ok tt) → ((clean || tested) && gaps n.situation) ≡ false
-clean_after o m n clean tested law is none passed a =
+pub gap_free_after : (o : Order) (m n : Meaning) (gap_free tested : Bool) → Lawful m.situation → tested ≡ is_tested o →
+    (gap_free && has_gap m.situation) ≡ false → stopped o m ≡ false → Answered o m n (Ok tt) → ((gap_free || tested) && has_gap n.situation) ≡ false
+gap_free_after o m n gap_free tested law is none passed a =
     let d = done_law o m n (Ok tt) a refl in
     rw (is, d.2)
     (elim (cases_Bool (is_tested o)) [
       | inl e ↦
-          let left : gaps (after o m.situation law d.1) ≡ false =
+          let left : has_gap (after o m.situation law d.1) ≡ false =
           refuted _ (λ g. both_ways (stopped o m) passed
           (and_from _ _ e (and_from _ _ (and_from _ _ (eq-eqb _ _ d.0) (rw d.1 refl)) g))) in
-          rw left (and-false (clean || is_tested o))
-      | inr e ↦ kept clean e none
+          rw left (and-false (gap_free || is_tested o))
+      | inr e ↦ kept gap_free e none
     ])
   where
-    kept : (b : Bool) → is_tested o ≡ false → (b && gaps m.situation) ≡ false → ((b || is_tested o) && gaps (record { universe = m.situation.universe; config = result_of o m.situation.config })) ≡ false
+    kept : (b : Bool) → is_tested o ≡ false → (b && has_gap m.situation) ≡ false → ((b || is_tested o) && has_gap (record { universe = m.situation.universe; config = result_of o m.situation.config })) ≡ false
     kept true e f = untested o m.situation law (done_law o m n (Ok tt) a refl).1 e f
     kept false e f = rw e refl
