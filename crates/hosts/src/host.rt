@@ -18,7 +18,7 @@ pub trait Host: Survey {
     // Waits are up to the longest wait, and the height is up to 255.
     ghost sane: { (x : Self) → Sane (service x) };
 
-    // Just what this host does with an order: it fixes what the relation of hosts leaves free.
+    // Just what this host does with an order, in its own terms: it may fix what the relation of hosts leaves free.
     ghost does: { Order → Self → Self → Answer → Type 0 };
 
     // What orders move: how many are put off, and what is allowed.
