@@ -505,7 +505,6 @@ def bound(locks, rosters):
     return [(order, "done") for order in orders + [f"c {numbers.stop} 1"]] + [(f"b 0 {locks - 1} {numbers.stop}", "31 by 0")]
 
 
-
 # Limits of 0, 1 and 2 with waits of 0, 2 and 8 on every pile, and of 256: so many creates or binds are done, and one more is
 # refused. With 256 instances every further create is of a number that is out of range (22) or stands (23).
 PILES = [("a cloud", "-"), ("a verifying cloud", "v"), ("a pile of two", "vv")]

@@ -38,7 +38,7 @@ survey_line s = end_line_of (instances_of s) (bindings_of s) (not (any_gap 256 s
 
 -- s and v tell what a host means, and `does` just what it does
 module _ {H : Type 0} (s : H → Situation) (v : H → Service) (does : Order → H → H → Answer → Type 0) where
-  -- the text tells of the order: the host h gave some answer and became k, by the relation of hosts and just as it does,
+  -- the text tells of the order: the host h gave some answer and became k, by the relation of hosts and by its `does`,
   -- and the text is the order's line with that answer, and with the waits and the allowances that the host then had
   pub record Told (o : Order) (h k : H) (text : List ℕ) : Type 0 where
     pub answer : Answer

@@ -36,6 +36,11 @@ ruled_none : (x : Option Offence) (g f : Bool) → ruled x g f ≡ None → x �
 ruled_none (Some e) g f h = absurd (let z : ◌≡◌ {A = ℕ} 0 1 = cc in omega arith)
 ruled_none None g f h = refl
 
+ruled_free : (x : Option Offence) (g f : Bool) → ruled x g f ≡ None → g ≡ false
+ruled_free (Some e) g f h = absurd (let z : ◌≡◌ {A = ℕ} 0 1 = cc in omega arith)
+ruled_free None true f h = absurd (let z : ◌≡◌ {A = ℕ} 0 1 = cc in omega arith)
+ruled_free None false f h = refl
+
 ruled_full : (x : Option Offence) (g f : Bool) → ruled x g f ≡ Some Full → f ≡ true
 ruled_full (Some e) g f h = absurd (let z : ◌≡◌ {A = ℕ} 0 1 = cc in omega arith)
 ruled_full None true f h = absurd (let z : ◌≡◌ {A = ℕ} 0 1 = cc in omega arith)
@@ -62,6 +67,11 @@ decision_busy o m h = ruled_busy (offence o m.situation) (watched o m) (full_tes
 decision_none : (o : Order) (m : Meaning) → decision o m ≡ None → offence o m.situation ≡ None
 unfolding decision
 decision_none o m h = ruled_none (offence o m.situation) (watched o m) (full_test o m.service.load) h
+
+-- what no rule refuses leaves no gap that a watchful host would find
+pub decision_free : (o : Order) (m : Meaning) → decision o m ≡ None → (m.service.profile.watchful && (is_tested o && leaves_gap o m.situation)) ≡ false
+unfolding decision
+decision_free o m h = ruled_free (offence o m.situation) (watched o m) (full_test o m.service.load) h
 
 decision_full : (o : Order) (m : Meaning) → decision o m ≡ Some Full → full_test o m.service.load ≡ true
 unfolding decision

@@ -106,8 +106,9 @@ waited_once m =
 abbrev pub Spent : Bool → ℕ → ℕ → Type 0
 Spent spent before after = before ≤ after + cond spent 1 0
 
--- what is free, in every answer: waits afterwards are some number up to the longest wait, only a done create lowers the creation
--- allowance and only a done bind the binding allowance, and a refusal comes from a layer at most as high as the host
+-- what is free: waits afterwards are some number up to the longest wait, only a done create lowers the creation
+-- allowance and only a done bind the binding allowance, and a refusal comes from a layer at most as high as the host;
+-- where an order is put off, no more than the height is left open by it
 pub record Free (o : Order) (m n : Meaning) (r : Answer) : Type 0 where
   pub waits : n.service.load.waits ≤ m.service.profile.longest
   pub creations : Spent (is_done r && is_create o) m.service.load.creations n.service.load.creations

@@ -1,5 +1,5 @@
 -- The laws of the interface, for all code above it. They speak of cases, not of numbers.
-use Rattle.std.specs.Prelude.{◌≡◌, ◌+◌, ◌<◌, ◌≤◌, cond, Some, None, Option, ◌≢◌}
+use Rattle.std.specs.Prelude.{◌≡◌, ◌+◌, ◌<◌, ◌≤◌, true, cond, Some, None, Option, ◌≢◌}
 use Rattle.model.specs.declared.order.Order.{Order}
 use Rattle.model.specs.declared.order.Order.TheVariants.{Create, Bind, Change, Unbind, Delete}
 use Rattle.model.specs.Config.{WellFormed}
@@ -12,7 +12,7 @@ use Rattle.hosts.specs.Survey.{Situation, Lawful}
 use Rattle.hosts.specs.declared.load.Load.{Load}
 use Rattle.hosts.specs.Service.{Sane}
 use Rattle.hosts.specs.Offences.{offence}
-use Rattle.hosts.specs.Answers.{Meaning, Answer, Answered, reason_of, waited_once, is_create, is_bind}
+use Rattle.hosts.specs.Answers.{Meaning, Answer, Answered, reason_of, is_done, waited_once, is_create, is_bind, is_tested}
 
 -- every instance number of the order is at most 255
 abbrev pub InRange : Order → Type 0
@@ -92,3 +92,11 @@ abbrev pub KeptLaw : Type 0
 KeptLaw =
     (o : Order) (m n : Meaning) (r : Answer) → Sane m.service → Answered o m n r →
     (n.situation.universe ≡ m.situation.universe) × (n.service.profile ≡ m.service.profile) × Sane n.service
+
+-- a watchful host that is gap-free stays so, whatever the order and its answer; and once it has done a change or an
+-- unbind it is gap-free, whatever stood before
+abbrev pub WatchfulLaw : Type 0
+WatchfulLaw =
+    (o : Order) (m n : Meaning) (r : Answer) → Lawful m.situation → m.service.profile.watchful ≡ true → Answered o m n r →
+    (GapFree m.situation.universe m.situation.config → GapFree n.situation.universe n.situation.config) ×
+    (is_done r ≡ true → is_tested o ≡ true → GapFree n.situation.universe n.situation.config)

@@ -1,8 +1,8 @@
 // The laws of the interface, on which code above it rests.
-ghost use Rattle.hosts.specs.Laws.{BusyLaw, CoveredLaw, DoneLaw, ExpectedLaw, GrowthLaw, KeptLaw, LawfulLaw, LegalLaw, RefusedLaw};
+ghost use Rattle.hosts.specs.Laws.{BusyLaw, CoveredLaw, DoneLaw, ExpectedLaw, GrowthLaw, KeptLaw, LawfulLaw, LegalLaw, RefusedLaw, WatchfulLaw};
 
-// The laws hold: what an order without offence is and adds, what busy, done and a refusal leave, when only busy or full can
-// come, when full cannot, and what never changes.
+// The laws hold: what an order without offence is and adds, what busy, done and a refusal leave, when only busy or full
+// can come, when full cannot, what never changes, and that a watchful host stays gap-free.
 pub fn laws_hold()
     ensures legal { LegalLaw }
     ensures lawful { LawfulLaw }
@@ -13,4 +13,5 @@ pub fn laws_hold()
     ensures expected { ExpectedLaw }
     ensures covered { CoveredLaw }
     ensures kept { KeptLaw }
+    ensures watchful { WatchfulLaw }
 {}

@@ -72,7 +72,7 @@ stopped_answers o s v sane e =
     }
 
 -- and where it does not, what the host below answers is what a watchful host answers
-passed_answers : (o : Order) (s s' : Situation) (v v' : Service) (r : Answer) → Sane v → stopped o (meaning s v) ≡ false →
+pub passed_answers : (o : Order) (s s' : Situation) (v v' : Service) (r : Answer) → Sane v → stopped o (meaning s v) ≡ false →
     Answered o (meaning s v) (meaning s' v') r → Answered o (meaning s (watched v)) (meaning s' (watched v')) r
 passed_answers o s s' v v' r sane e b =
     record {

@@ -35,6 +35,7 @@ pub record Relayed {B : Type 0} (below : Order → B → B → Answer → Type 0
   pub stops : stopped o m ≡ true → (after ≡ before) × (r ≡ Err (own_refusal m))
   pub passes : stopped o m ≡ false → below o before after r
 
--- the layer leads the host below from h to k with this answer, where s and v tell what a host means and `below` what it does
+-- the layer leads the host below from h to k with this answer, where s and v tell what a host means and `below` what it
+-- does
 abbrev pub Relays : {B : Type 0} → (B → Situation) → (B → Service) → (Order → B → B → Answer → Type 0) → Order → B → B → Answer → Type 0
 Relays s v below o h k r = Relayed below o (meaning (s h) (v h)) h k r

@@ -4,7 +4,8 @@ ghost use Rattle.hosts.specs.Survey.{has_gap};
 
 use hosts::host::Host;
 
-// A host, and whether it is known that nothing has a gap in it; while it is, an order is tested only where it can open one.
+// A host, and whether it is known that nothing has a gap in it. While it is, an order is tested only where it can open
+// one.
 #[derive(Drop)]
 pub struct Verifying<B: Host> {
     pub(crate) below: B,

@@ -99,7 +99,8 @@ impl<B: Host> Verifying<B> {
         Ok(())
     }
 
-    // Gives the order, which the layer does not stop, to the host below. If it was tested for gaps and is done, there are none.
+    // Gives the order, which the layer does not stop, to the host below. If it was tested for gaps and is done, there are
+    // none.
     fn pass_on(&mut self, order: Order) -> Result<(), Refusal>
         requires { stopped order (meaning (B.Survey.situation self.old.below) (B.Host.service self.old.below)) ≡ false }
         ensures answered { Gives B.Survey.situation B.Host.service order self.old.below self.new.below result }

@@ -143,7 +143,7 @@ impl<S: Survey> View<'_, S> {
         })
     }
 
-    // Whether losing a port that it has to give would leave a gap at some instance that is bound to this one.
+    // Whether the instance would lose a port that it has to give, and so leave a gap at one that is bound to it.
     fn would_uncover(&self, instance: u32) -> bool
         ensures { result ≡ uncovers (viewed S.situation self.now).universe (S.situation self.now.survey.now).config (viewed S.situation self.now).config instance }
     {
@@ -180,8 +180,8 @@ pub fn find_gap<S: Survey>(survey: &S, prospect: Prospect) -> Option<FoundGap>
     View { survey, prospect }.first_gap()
 }
 
-// Whether what is foreseen opens a gap. It looks only where the order can open one, and takes what stands to be gap-free; so
-// it is quicker than the search for the first gap.
+// Whether what is foreseen opens a gap. It looks only where the order can open one, and takes what stands to be gap-free;
+// so it is quicker than the search for the first gap.
 #[tactic(auto, using(crate::proofs::Opened::opens_all))]
 pub fn opens_gap<S: Survey>(survey: &S, prospect: Prospect) -> bool
     ensures value { result ≡ opens prospect (S.situation survey.now).universe (S.situation survey.now).config }

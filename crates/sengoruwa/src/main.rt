@@ -221,7 +221,7 @@ const SLOW_HOST: HostOptions = HostOptions {
     layers: Layers::Verifying,
 };
 
-// The orders, with the last one also given before the one before it, and each as often as a slow host needs it to take one.
+// The orders, with the last one also given before the one before it, and each as often as a slow host needs to take one.
 fn orders_with_one_early(alloc: Global, orders: &[Order]) -> Result<Vec<Order>, AllocError> {
     let mut given = Vec::new(alloc);
     let [before @ .., serve, release] = orders else {

@@ -1,6 +1,7 @@
 use Rattle.hosts.proofs.Offending.{legal_law, lawful_law}
 use Rattle.hosts.proofs.Growing.{growth_law}
 use Rattle.hosts.proofs.Deciding.{busy_law, done_law, refused_law, expected_law, covered_law, kept_law}
+use Rattle.hosts.proofs.Watching.{watchful_law}
 use Rattle.hosts.proofs.laws.laws_hold.Goals as goal
 
 pub returns : goal.returns
@@ -15,4 +16,5 @@ returns c =
       expected = expected_law;
       covered = covered_law;
       kept = kept_law;
+      watchful = watchful_law;
     }
