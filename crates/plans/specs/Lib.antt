@@ -6,3 +6,4 @@ pub mod Goals
 pub mod Script
 pub mod Laws
 pub mod Test
+pub mod Scratch

@@ -5,3 +5,5 @@ ghost use Rattle.plans.specs.Laws.{ClosingLaw, EndLaw, LinesLaw, LowerLaw, Neede
 ghost use Rattle.plans.specs.Test.{Tests};
 
 pub fn tests() ensures { Tests } {}
+ghost use Rattle.plans.specs.Scratch.{X};
+pub fn scratch() ensures { X } {}
