@@ -1,0 +1,4 @@
+// The closing order of a universe, kept so that ranks, parents and suppliers can be looked up.
+#![tactic(auto)]
+
+mod listing;
