@@ -2,3 +2,4 @@
 #![tactic(auto)]
 
 mod listing;
+pub mod order;
