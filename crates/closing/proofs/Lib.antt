@@ -1,2 +1,3 @@
 pub mod Masks
 pub mod Tracking
+pub mod Rounds

@@ -4,7 +4,7 @@ use mathlib.Core.Bool.{or-false}
 use lib.Bits.{bit_or}
 use Rattle.std.specs.List.{list_any}
 use Rattle.std.proofs.lemmas.Bool.{and_parts, both_ways, cases_Bool, cases_eq, eq-eqb, ne_eqb}
-use Rattle.std.proofs.lemmas.List.{get_or-set_same, get_or-set_other, length-set, length-replicate, map-append, take_more_set}
+use Rattle.std.proofs.lemmas.List.{get_or-set_same, get_or-set_other, length-set, length-replicate, length-map, length-take-le, map-append, take_more_set}
 use Rattle.model.specs.declared.pair.Pair.{Pair}
 use Rattle.model.specs.Config.{pair}
 use Rattle.model.specs.Search.{any}
@@ -22,7 +22,8 @@ use Rattle.plans.specs.Closing.{lacks, leads, provides}
 use Rattle.plans.proofs.Ranks.{any_pushed}
 use Rattle.closing.specs.declared.order.Listed.{Listed}
 use Rattle.closing.specs.declared.listing.Listing.{Listing}
-use Rattle.closing.specs.Listing.{Lists, Places, Sets, exceeds, kept_of, pairs_in, pairs_of}
+use Rattle.closing.specs.Listing.{Lists, Sets, exceeds, pairs_in, pairs_of}
+use Rattle.closing.specs.Places.{Places, kept_of}
 use Rattle.closing.proofs.Masks.{has_none, has_or, has_single}
 
 -- two searches agree where their tests do, if nothing passes from the lower bound on
@@ -182,3 +183,11 @@ pair_small h k q (low, at) =
     let few = (v.states k low).1 in
     let types = v.types.1 in
     (omega arith, omega arith)
+
+-- the listing has as many pairs as it counts
+pub places_length : (t : Tables) (l : List Pair) (places : List Listed) (len : ℕ) → Places t l places len → length l ≡ len
+places_length t l places len p =
+    sym (length-map l (kept_of t)) ∙ ap length (sym p.kept) ∙ length-take-le len places (omega (arith, p.room, p.within))
+
+pub lists_tracks : (t : Tables) (l : List Pair) (s : Listing) → Lists t l s → Lists t (pairs_of s) s
+lists_tracks t l s lists = rw (places_pairs t l s.places s.len lists.places) lists

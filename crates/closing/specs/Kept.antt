@@ -1,10 +1,12 @@
 -- The kept closing order.
 use Rattle.std.specs.Prelude.{ℕ, List}
+use Rattle.model.specs.declared.pair.Pair.{Pair}
+use Rattle.model.specs.Universe.{Universe}
 use Rattle.universe.specs.declared.tables.Tables.{Tables}
 use Rattle.universe.specs.Tables.{universe_of}
 use Rattle.plans.specs.Closing.{closing}
 use Rattle.closing.specs.declared.order.Listed.{Listed}
-use Rattle.closing.specs.Listing.{Places}
+use Rattle.closing.specs.Places.{Places}
 
 -- the first places hold the closing order
 abbrev pub Kept : Tables → List Listed → ℕ → Type 0

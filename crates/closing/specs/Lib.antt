@@ -1,2 +1,4 @@
+pub mod Places
 pub mod Listing
 pub mod Kept
+pub mod Order

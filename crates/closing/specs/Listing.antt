@@ -10,25 +10,16 @@ use Rattle.universe.specs.Tables.{entry_at, universe_of}
 use Rattle.plans.specs.Lists.{listed}
 use Rattle.plans.specs.Closing.{leads, provides}
 use Rattle.closing.specs.declared.order.Listed.{Listed}
+use Rattle.closing.specs.Places.{Places}
 use Rattle.closing.specs.declared.listing.Listing.{Listing}
 
 -- some port is in the first set and not in the second
 unfoldable pub exceeds : ℕ → ℕ → Bool
 exceeds required provided = any (λ p. has 32 required p && not (has 32 provided p)) 32
 
--- what is kept of a listed pair
-abbrev pub kept_of : Tables → Pair → Listed
-kept_of t h = record { pair = h; provided = (entry_at t h.kind h.state).provided }
-
 -- the pairs of the first n places
 abbrev pub pairs_in : List Listed → ℕ → List Pair
 pairs_in places n = map (λ e. e.pair) (take n places)
-
--- full arrays; the places keep what belongs to their pairs
-pub record Places (t : Tables) (l : List Pair) (places : List Listed) (len : ℕ) : Type 0 where
-  pub room : length places ≡ 128
-  pub within : len ≤ 128
-  pub kept : take len places ≡ map (kept_of t) l
 
 -- the sets tell what the pairs of l provide, which they are, and to which they lead
 pub record Sets (t : Tables) (l : List Pair) (provided : ℕ) (listed_states led_states : List ℕ) : Type 0 where

@@ -2,4 +2,5 @@
 #![tactic(auto)]
 
 mod listing;
+mod lookup;
 pub mod order;

@@ -7,7 +7,7 @@ ghost use Rattle.model.specs.Universe.{IsPair};
 ghost use Rattle.universe.specs.declared.tables.Tables.{Tables};
 ghost use Rattle.universe.specs.Held.{universe_in};
 ghost use Rattle.plans.specs.Lists.{listed, some_if};
-ghost use Rattle.plans.specs.Closing.{addable, lacks, leads, next_pair};
+ghost use Rattle.plans.specs.Closing.{addable, closing, initial_pairs, lacks, leads, next_pair};
 ghost use Rattle.closing.specs.Listing.{Lists, Tracks, exceeds, pairs_of};
 
 use crate::order::Listed;
@@ -65,6 +65,28 @@ impl Listing {
             listed: [0; 16],
             led: [0; 16],
         }
+    }
+
+    // The pairs with state 0, by type.
+    fn initial(universe: &Universe) -> Listing
+        ensures { Lists universe.now.tables (initial_pairs (universe_in universe.now)) result }
+    {
+        let mut listing = Listing::empty();
+        for kind in 0..universe.types() {
+            listing.push(universe, Pair { kind, state: 0 });
+        }
+        listing
+    }
+
+    // All pairs that can be listed.
+    pub(crate) fn whole(universe: &Universe) -> Listing
+        ensures { Lists universe.now.tables (closing (universe_in universe.now)) result }
+    {
+        let mut listing = Listing::initial(universe);
+        while let Some(pair) = listing.next_pair(universe) {
+            listing.push(universe, pair);
+        }
+        listing
     }
 
     // Lists a pair behind the others.
