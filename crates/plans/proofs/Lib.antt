@@ -1,6 +1,13 @@
-pub mod Closed
 pub mod Ranks
+pub mod Closed
 pub mod Growing
 pub mod Closings
 pub mod Beyond
+pub mod Sets
+pub mod Leading
+pub mod Building
+pub mod Gapless
+pub mod Counts
+pub mod Walking
+pub mod Measures
 pub mod TestCases
