@@ -10,4 +10,8 @@ pub mod Gapless
 pub mod Counts
 pub mod Walking
 pub mod Measures
-pub mod TestCases
+pub mod Paths
+pub mod Needing
+pub mod Hits
+pub mod Planned
+pub mod Holding
