@@ -14,4 +14,4 @@ pub mod Paths
 pub mod Needing
 pub mod Hits
 pub mod Planned
-pub mod Holding
+pub mod Laws

@@ -53,22 +53,22 @@ deployed u goal = record {
 }
 
 abbrev pub EndLaw : Type 0
-EndLaw = (u : Universe) (goal : List Pair) → Valid u → InReach u goal → after empty (script u goal) ≡ deployed u goal
+EndLaw = (u : Universe) (goal : List Pair) → Valid u → after empty (script u goal) ≡ deployed u goal
 
 -- at every place of the script, each binding's provider has a lower number than its requirer
 abbrev pub LowerLaw : Type 0
 LowerLaw =
-    (u : Universe) (goal : List Pair) → Valid u → InReach u goal →
+    (u : Universe) (goal : List Pair) → Valid u →
     (os ps : List Order) → script u goal ≡ os ++ ps → (p x y : ℕ) → (after empty os).bound p x y ≡ true → x < y
 
 -- a script for up to 16 pairs has at most 48 instances and 11,136 lines, and at every place of it at most 1,536 bindings stand,
 -- among whatever ports and numbers they are counted
 abbrev pub SizeLaw : Type 0
 SizeLaw =
-    (u : Universe) (goal : List Pair) → Valid u → InReach u goal → length goal ≤ 16 →
+    (u : Universe) (goal : List Pair) → Valid u → length goal ≤ 16 →
     (length (needed_pairs u goal) ≤ 48) × (length (script u goal) ≤ 11136) ×
     ((os ps : List Order) → script u goal ≡ os ++ ps → (m n : ℕ) → bindings m n (after empty os) ≤ 1536)
 
 -- each of its orders has a line
 abbrev pub LinesLaw : Type 0
-LinesLaw = (u : Universe) (goal : List Pair) → Valid u → InReach u goal → length goal ≤ 16 → All (λ o. IsOk (encoded o)) (script u goal)
+LinesLaw = (u : Universe) (goal : List Pair) → Valid u → length goal ≤ 16 → All (λ o. IsOk (encoded o)) (script u goal)

@@ -5,5 +5,3 @@ pub mod Plan
 pub mod Goals
 pub mod Script
 pub mod Laws
-pub mod Test
-pub mod Scratch

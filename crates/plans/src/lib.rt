@@ -2,8 +2,16 @@
 #![tactic(auto)]
 
 ghost use Rattle.plans.specs.Laws.{ClosingLaw, EndLaw, LinesLaw, LowerLaw, NeededLaw, ReachLaw, SizeLaw};
-ghost use Rattle.plans.specs.Test.{Tests};
 
-pub fn tests() ensures { Tests } {}
-ghost use Rattle.plans.specs.Scratch.{X};
-pub fn scratch() ensures { X } {}
+// The laws hold: the closing order lists what some run brings about; the script for a goal in reach is a run that reaches it,
+// and no run reaches any other goal; the needed pairs are those that the goal needs, by rank, and the script leaves just
+// them; providers have lower numbers than requirers; scripts are short, and every order of one has a line.
+pub fn laws_hold()
+    ensures closing { ClosingLaw }
+    ensures reach { ReachLaw }
+    ensures needed { NeededLaw }
+    ensures end { EndLaw }
+    ensures lower { LowerLaw }
+    ensures size { SizeLaw }
+    ensures lines { LinesLaw }
+{}
