@@ -1,3 +1,4 @@
 pub mod Masks
 pub mod Tracking
 pub mod Rounds
+pub mod Lookups

@@ -1,9 +1,11 @@
-use Rattle.std.proofs.Common.{rules, ◌≡◌, length, slice_get, take, ℕ, ◌+◌, ◌-◌, ◌*◌, ◌<◌, ◌≤◌, ◌/◌, ◌%◌, Bool, true, false, nat_eq, nat_lt, List, [], ◌∷◌, ◌++◌, slice_index_or, slice_set, bit_and, bit_or, Fits, w8, w32, w64, Bor, MutBor}
-use Rattle.plans.specs.Lists.{rank_of}
-use Rattle.plans.specs.Closing.{leads, parent_rank, supplier_rank}
-use Rattle.closing.specs.Order.{pairs_in_order, universe_in_order}
+use Rattle.std.proofs.Common.{refl, ap, ◌∙◌}
+use Rattle.std.specs.List.{position}
+use Rattle.plans.specs.Lists.{same_pair}
+use Rattle.closing.proofs.Lookups.{found}
 use Rattle.closing.proofs.order.ClosingOrder.rank.Goals as goal
 
--- src/lookup.rt:55:5
 pub returns : goal.returns
-returns c = ?
+returns c =
+    let o = c.args.self.now in
+    found o.universe.tables _ o.places o.len o.kept (λ e. same_pair c.args.pair e.pair) (same_pair c.args.pair) (λ h. refl) c.place_of.result
+    (c.place_of.ensures ∙ ap (position _) c.places.ensures) c.unwrap_or.result c.unwrap_or.ensures
