@@ -1,0 +1,4 @@
+pub mod Refusals
+pub mod Goals
+pub mod Held
+pub mod Writing

@@ -1,0 +1,75 @@
+// The pairs that a goal needs.
+ghost use Rattle.std.specs.Prelude.{◌≡◌, ◌==◌, ◌&&◌, ◌||◌, ◌<◌, ◌≤◌, ℕ, drop, length, true};
+ghost use Rattle.model.specs.Search.{any};
+ghost use Rattle.universe.specs.Sets.{has};
+ghost use Rattle.plans.specs.Lists.{listed};
+ghost use Rattle.plans.specs.Closing.{supplier_rank};
+ghost use Rattle.plans.specs.Needs.{needed, path_requires};
+ghost use Rattle.closing.specs.Order.{pairs_in_order, universe_in_order};
+ghost use Rattle.planner.specs.Goals.{goal_of};
+ghost use Rattle.planner.specs.Held.{NeededFits, pairs_of_needed, supplies};
+
+use crate::goal::has_pair;
+use crate::path::{FIRST_PAIR, path_of};
+use closing::order::ClosingOrder;
+use model::pair::Pair;
+use universe::sets::Field;
+
+// The needed pairs by rank, from a place of the array on.
+#[derive(Clone, Copy)]
+pub(crate) struct Needed {
+    pub(crate) pairs: [Pair; 128],
+    pub(crate) from: usize,
+}
+
+impl Needed {
+    // The pairs, by rank.
+    pub(crate) fn pairs(&self) -> &[Pair]
+        requires { NeededFits self.now }
+        ensures { result.now ≡ pairs_of_needed self.now }
+    {
+        &self.pairs[self.from..]
+    }
+}
+
+// The ports that some pair on the path of a listed pair requires.
+fn path_ports(order: &ClosingOrder, pair: Pair) -> u32
+    requires { listed (pairs_in_order order.now) pair ≡ true }
+    ensures { (p : ℕ) → has 32 result p ≡ path_requires (universe_in_order order.now) (pairs_in_order order.now) pair p }
+{
+    let path = path_of(order, pair);
+    let mut ports = 0;
+    for state in path.states() {
+        ports |= order.universe().entry(u32::from(pair.kind), u32::from(*state)).required;
+    }
+    ports
+}
+
+// Whether the pair of the rank is the supplier of one of the ports.
+fn supplies(order: &ClosingOrder, ports: u32, rank: usize) -> bool
+    ensures { result ≡ supplies (universe_in_order order.now) (pairs_in_order order.now) ports rank }
+{
+    (0..u32::from(order.universe().ports())).any(|port| {
+        ports.has(port) && order.supplier(port) == rank
+    })
+}
+
+// The pairs that the goal needs, by rank: found from the highest rank down, since a supplier always has a lower rank than
+// the pairs that need it.
+pub(crate) fn needed_pairs(order: &ClosingOrder, goal: &[u8]) -> Needed
+    ensures fits { NeededFits result }
+    ensures pairs { pairs_of_needed result ≡ needed (universe_in_order order.now) (pairs_in_order order.now) (goal_of goal.now) }
+{
+    let mut pairs = [FIRST_PAIR; 128];
+    let mut from = 128;
+    let mut wanted = 0;
+    for rank in (0..order.len()).rev() {
+        let pair = order.pair(rank).unwrap_or(FIRST_PAIR);
+        if has_pair(goal, pair) || supplies(order, wanted, rank) {
+            from -= 1;
+            pairs[from] = pair;
+            wanted |= path_ports(order, pair);
+        }
+    }
+    Needed { pairs, from }
+}
