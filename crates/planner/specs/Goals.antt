@@ -26,6 +26,6 @@ refused_if b e r = cond b (Err e) r
 -- there are 1 to 16 lines, and each is a line of a goal
 abbrev pub goal_checked : Universe → List ℕ → Result (Unit {0}) PlanRefusal
 goal_checked u bs =
-    refused_if (length bs == 0 || nat_lt 16 (length bs)) GoalLength
+    refused_if (nat_lt (length bs) 1 || nat_lt 16 (length bs)) GoalLength
     (refused_if (not (list_all (is_goal_line u) bs)) NoPair
     (Ok tt))

@@ -31,29 +31,46 @@ fn is_goal_line(universe: &Universe, line: u8) -> bool
         && pair.state < universe.states(u32::from(pair.kind))
 }
 
+// Whether every line is a line of a goal.
+fn are_goal_lines(universe: &Universe, goal: &[u8]) -> bool
+    ensures { result ≡ list_all (is_goal_line (universe_in universe.now)) goal.now }
+{
+    goal.iter().all(|line| is_goal_line(universe, *line))
+}
+
 // Refused where the goal has too few or too many lines, or a line is no line of a goal.
 pub(crate) fn check_goal(universe: &Universe, goal: &[u8]) -> Result<(), PlanRefusal>
     ensures { result ≡ goal_checked (universe_in universe.now) goal.now }
 {
-    if goal.is_empty() || goal.len() > 16 {
+    if !(1..=16).contains(&goal.len()) {
         return Err(PlanRefusal::GoalLength);
     }
-    if !goal.iter().all(|line| is_goal_line(universe, *line)) {
+    if !are_goal_lines(universe, goal) {
         return Err(PlanRefusal::NoPair);
     }
     Ok(())
 }
 
 // Whether some line names the pair.
+#[tactic(auto, using(crate::proofs::Naming::named))]
 pub(crate) fn has_pair(goal: &[u8], pair: Pair) -> bool
     ensures { result ≡ listed (goal_of goal.now) pair }
 {
     goal.iter().any(|line| pair == pair_of_line(*line))
 }
 
+// Whether the order lists the pair.
+#[tactic(auto, using(crate::proofs::Naming::ranked))]
+fn is_listed(order: &ClosingOrder, pair: Pair) -> bool
+    ensures { result ≡ listed (pairs_in_order order.now) pair }
+{
+    order.rank(pair) < order.len()
+}
+
 // Whether the order lists the pair of every line.
+#[tactic(auto, using(crate::proofs::Naming::all_named))]
 pub(crate) fn is_in_reach(order: &ClosingOrder, goal: &[u8]) -> bool
     ensures { result ≡ list_all (listed (pairs_in_order order.now)) (goal_of goal.now) }
 {
-    goal.iter().all(|line| order.rank(pair_of_line(*line)) < order.len())
+    goal.iter().all(|line| is_listed(order, pair_of_line(*line)))
 }
