@@ -1,1 +1,2 @@
 pub mod Naming
+pub mod Promising
