@@ -1,0 +1,4 @@
+// What the commands `closing` and `plan` print.
+#![tactic(auto)]
+
+pub mod closing_text;
