@@ -6,7 +6,9 @@ use Rattle.std.specs.Result.{result_map_both}
 use Rattle.std.specs.Str.{bytes_eq}
 use Rattle.text.specs.Written.{number_of}
 use Rattle.options.specs.declared.Flag.{Flag}
-use Rattle.options.specs.declared.Flag.TheVariants.{Instances, Bindings, Delay, Layers as LayersFlag}
+use Rattle.options.specs.declared.Flag.TheVariants.{Instances, Bindings, Delay, Layers as LayersFlag, Room, Out}
+use Rattle.options.specs.declared.Command.{Command}
+use Rattle.options.specs.declared.Command.TheVariants.{Host, Plan}
 use Rattle.options.specs.declared.Layers.{Layers}
 use Rattle.options.specs.declared.Layers.TheVariants.{None as NoLayer, Verifying, VerifyingTwice}
 use Rattle.options.specs.declared.Given.{Given}
@@ -25,6 +27,23 @@ flag_text Instances = codes "--instances"
 flag_text Bindings = codes "--bindings"
 flag_text Delay = codes "--delay"
 flag_text LayersFlag = codes "--layers"
+flag_text Room = codes "--room"
+flag_text Out = codes "--out"
+
+-- the command has the option
+abbrev pub takes : Command → Flag → Bool
+takes Host Instances = true
+takes Host Bindings = true
+takes Host Delay = true
+takes Host LayersFlag = true
+takes Host Room = false
+takes Host Out = false
+takes Plan Instances = false
+takes Plan Bindings = false
+takes Plan Delay = false
+takes Plan LayersFlag = false
+takes Plan Room = true
+takes Plan Out = true
 
 -- the flag of a word
 abbrev pub flag_of_text : List ℕ → Result Flag Reason
@@ -32,7 +51,9 @@ flag_of_text w =
     cond (bytes_eq w (codes "--instances")) (Ok Instances) (
     cond (bytes_eq w (codes "--bindings")) (Ok Bindings) (
     cond (bytes_eq w (codes "--delay")) (Ok Delay) (
-    cond (bytes_eq w (codes "--layers")) (Ok LayersFlag) (Err Unknown))))
+    cond (bytes_eq w (codes "--layers")) (Ok LayersFlag) (
+    cond (bytes_eq w (codes "--room")) (Ok Room) (
+    cond (bytes_eq w (codes "--out")) (Ok Out) (Err Unknown))))))
 
 -- the layers of a word, from the bottom up
 abbrev pub layers_of_text : List ℕ → Result Layers Reason
@@ -47,44 +68,53 @@ has g Instances = is_some g.instances
 has g Bindings = is_some g.bindings
 has g Delay = is_some g.delay
 has g LayersFlag = is_some g.layers
+has g Room = is_some g.room
+has g Out = is_some g.out
 
 -- the number that is the value of a flag, which the word writes
 abbrev pub number_for : Flag → List ℕ → Result ℕ Reason
 number_for f w = ok_or (number_of w) (BadValue f)
 
--- the values with that of a flag, which the word writes
-abbrev pub with_value_of : Given → Flag → List ℕ → Result Given Reason
-with_value_of g Instances w = result_map_both (λ n. record { instances = Some n; bindings = g.bindings; delay = g.delay; layers = g.layers }) (λ e. e) (number_for Instances w)
-with_value_of g Bindings w = result_map_both (λ n. record { instances = g.instances; bindings = Some n; delay = g.delay; layers = g.layers }) (λ e. e) (number_for Bindings w)
-with_value_of g Delay w = result_map_both (λ n. record { instances = g.instances; bindings = g.bindings; delay = Some n; layers = g.layers }) (λ e. e) (number_for Delay w)
-with_value_of g LayersFlag w = result_map_both (λ l. record { instances = g.instances; bindings = g.bindings; delay = g.delay; layers = Some l }) (λ e. e) (layers_of_text w)
+-- the values with that of a flag, which the word at a place writes; of a path, that place
+abbrev pub with_value_of : Given → Flag → ℕ → List ℕ → Result Given Reason
+with_value_of g Instances place w = result_map_both (λ n. record { instances = Some n; bindings = g.bindings; delay = g.delay; layers = g.layers; room = g.room; out = g.out }) (λ e. e) (number_for Instances w)
+with_value_of g Bindings place w = result_map_both (λ n. record { instances = g.instances; bindings = Some n; delay = g.delay; layers = g.layers; room = g.room; out = g.out }) (λ e. e) (number_for Bindings w)
+with_value_of g Delay place w = result_map_both (λ n. record { instances = g.instances; bindings = g.bindings; delay = Some n; layers = g.layers; room = g.room; out = g.out }) (λ e. e) (number_for Delay w)
+with_value_of g LayersFlag place w = result_map_both (λ l. record { instances = g.instances; bindings = g.bindings; delay = g.delay; layers = Some l; room = g.room; out = g.out }) (λ e. e) (layers_of_text w)
+with_value_of g Room place w = result_map_both (λ n. record { instances = g.instances; bindings = g.bindings; delay = g.delay; layers = g.layers; room = Some n; out = g.out }) (λ e. e) (number_for Room w)
+with_value_of g Out place w = Ok (record { instances = g.instances; bindings = g.bindings; delay = g.delay; layers = g.layers; room = g.room; out = Some place })
 
 -- the flag, if it has no value yet
 abbrev pub unless_given : Given → Result Flag Reason → Result Flag Reason
 unless_given g (Ok f) = cond (has g f) (Err (Twice f)) (Ok f)
 unless_given g (Err e) = Err e
 
--- the flag of a word, if it has no value yet
-abbrev pub next_flag_of : Given → List ℕ → Result Flag Reason
-next_flag_of g w = unless_given g (flag_of_text w)
+-- the flag, if the command has it
+abbrev pub if_taken : Command → Result Flag Reason → Result Flag Reason
+if_taken k (Ok f) = cond (takes k f) (Ok f) (Err Unknown)
+if_taken k (Err e) = Err e
+
+-- the flag of a word, if the command has it and it has no value yet
+abbrev pub next_flag_of : Command → Given → List ℕ → Result Flag Reason
+next_flag_of k g w = unless_given g (if_taken k (flag_of_text w))
 
 -- what follows if the word at the place can be used
 abbrev pub going_on : {A : Type 0} → ℕ → Result A Reason → (A → Result Given Fault) → Result Given Fault
 going_on place (Ok x) later = later x
 going_on place (Err e) later = Err (record { place = place; reason = e })
 
--- the values that the words from a place on give, where some are given already. The flag is the one whose value comes
--- next, if there is one: else a word is an option, or it is plain. Behind the last word no value may be missing.
-abbrev pub given_from : ℕ → Given → Option Flag → List (List ℕ) → Result Given Fault
-given_from place g None [] = Ok g
-given_from place g (Some f) [] = Err (record { place = place; reason = NoValue f })
-given_from place g None (w ∷ ws) =
-    cond (option_test w) (going_on place (next_flag_of g w) (λ f. given_from (place + 1) g (Some f) ws)) (given_from (place + 1) g None ws)
-given_from place g (Some f) (w ∷ ws) = going_on place (with_value_of g f w) (λ h. given_from (place + 1) h None ws)
+-- the values that the words from a place on give to the command, where some are given already. The flag is the one whose
+-- value comes next, if there is one: else a word is an option, or it is plain. Behind the last word no value may be missing.
+abbrev pub given_from : Command → ℕ → Given → Option Flag → List (List ℕ) → Result Given Fault
+given_from k place g None [] = Ok g
+given_from k place g (Some f) [] = Err (record { place = place; reason = NoValue f })
+given_from k place g None (w ∷ ws) =
+    cond (option_test w) (going_on place (next_flag_of k g w) (λ f. given_from k (place + 1) g (Some f) ws)) (given_from k (place + 1) g None ws)
+given_from k place g (Some f) (w ∷ ws) = going_on place (with_value_of g f place w) (λ h. given_from k (place + 1) h None ws)
 
--- the values that the words give
-abbrev pub given_by : List (List ℕ) → Result Given Fault
-given_by ws = given_from 0 (record { instances = None; bindings = None; delay = None; layers = None }) None ws
+-- the values that the words give to the command
+abbrev pub given_by : Command → List (List ℕ) → Result Given Fault
+given_by k ws = given_from k 0 (record { instances = None; bindings = None; delay = None; layers = None; room = None; out = None }) None ws
 
 -- the places of the plain words, from a place on; whether the first word is the value of an option
 abbrev pub plain_places : ℕ → Bool → List (List ℕ) → List ℕ

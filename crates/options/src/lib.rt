@@ -3,10 +3,17 @@
 #![tactic(auto)]
 
 ghost use Rattle.std.specs.Prelude.{◌≡◌, map, string_bytes};
-ghost use Rattle.options.specs.Options.{flag_of_text, flag_text, given_by, has, host_options_of, layers_of_text, next_flag_of, option_test, plain_place_of, with_value_of};
+ghost use Rattle.options.specs.Options.{flag_of_text, flag_text, given_by, has, host_options_of, layers_of_text, next_flag_of, option_test, plain_place_of, takes, with_value_of};
 
 use std::str::FromStr;
 use text::parse_number;
+
+// The commands that have options.
+#[derive(Clone, Copy, PartialEq, Eq, Debug)]
+pub enum Command {
+    Host,
+    Plan,
+}
 
 // The options that there are.
 #[derive(Clone, Copy, PartialEq, Eq, Debug)]
@@ -15,6 +22,8 @@ pub enum Flag {
     Bindings,
     Delay,
     Layers,
+    Room,
+    Out,
 }
 
 // The layers above a cloud.
@@ -25,13 +34,15 @@ pub enum Layers {
     VerifyingTwice,
 }
 
-// The values of the options that are given.
+// The values of the options that are given; of a path, the place of its word from 0.
 #[derive(Clone, Copy, PartialEq, Eq, Debug, Default)]
 pub struct Given {
     pub instances: Option<u32>,
     pub bindings: Option<u32>,
     pub delay: Option<u32>,
     pub layers: Option<Layers>,
+    pub room: Option<u32>,
+    pub out: Option<usize>,
 }
 
 // What a host is made from.
@@ -46,7 +57,7 @@ pub struct HostOptions {
 // Why the words cannot be used.
 #[derive(Clone, Copy, PartialEq, Eq, Debug)]
 pub enum Reason {
-    // There is no such option.
+    // The command has no such option.
     Unknown,
     // The option has a value already.
     Twice(Flag),
@@ -73,6 +84,20 @@ impl Flag {
             Flag::Bindings => "--bindings",
             Flag::Delay => "--delay",
             Flag::Layers => "--layers",
+            Flag::Room => "--room",
+            Flag::Out => "--out",
+        }
+    }
+}
+
+impl Command {
+    // The command has the option.
+    fn takes(self, flag: Flag) -> bool
+        ensures { result ≡ takes self flag }
+    {
+        match flag {
+            Flag::Instances | Flag::Bindings | Flag::Delay | Flag::Layers => self == Command::Host,
+            Flag::Room | Flag::Out => self == Command::Plan,
         }
     }
 }
@@ -89,6 +114,8 @@ impl FromStr for Flag {
             "--bindings" => Ok(Flag::Bindings),
             "--delay" => Ok(Flag::Delay),
             "--layers" => Ok(Flag::Layers),
+            "--room" => Ok(Flag::Room),
+            "--out" => Ok(Flag::Out),
             _ => Err(Reason::Unknown),
         }
     }
@@ -127,23 +154,28 @@ impl Given {
             Flag::Bindings => self.bindings.is_some(),
             Flag::Delay => self.delay.is_some(),
             Flag::Layers => self.layers.is_some(),
+            Flag::Room => self.room.is_some(),
+            Flag::Out => self.out.is_some(),
         }
     }
 
-    // The option of a word, if it has no value yet.
-    fn next_flag(self, word: &str) -> Result<Flag, Reason>
-        ensures { result ≡ next_flag_of self word.now }
+    // The option of a word, if the command has it and it has no value yet.
+    fn next_flag(self, command: Command, word: &str) -> Result<Flag, Reason>
+        ensures { result ≡ next_flag_of command self word.now }
     {
         let flag = word.parse()?;
+        if !command.takes(flag) {
+            return Err(Reason::Unknown);
+        }
         if self.has(flag) {
             return Err(Reason::Twice(flag));
         }
         Ok(flag)
     }
 
-    // The values with that of the option, which the word writes.
-    fn with_value(self, flag: Flag, word: &str) -> Result<Given, Reason>
-        ensures { result ≡ with_value_of self flag word.now }
+    // The values with that of the option, which the word at the place writes.
+    fn with_value(self, flag: Flag, place: usize, word: &str) -> Result<Given, Reason>
+        ensures { result ≡ with_value_of self flag place word.now }
     {
         let number = || parse_number(word.as_bytes()).ok_or(Reason::BadValue(flag));
         let mut given = self;
@@ -152,6 +184,8 @@ impl Given {
             Flag::Bindings => given.bindings = Some(number()?),
             Flag::Delay => given.delay = Some(number()?),
             Flag::Layers => given.layers = Some(word.parse()?),
+            Flag::Room => given.room = Some(number()?),
+            Flag::Out => given.out = Some(place),
         }
         Ok(given)
     }
@@ -169,16 +203,16 @@ impl Given {
     }
 }
 
-// The values of the options among the words, or the first word that cannot be used.
-pub fn parse_options(words: &[String]) -> Result<Given, Fault>
-    ensures { result ≡ given_by (map string_bytes words.now) }
+// The values of the command's options among the words, or the first word that cannot be used.
+pub fn parse_options(command: Command, words: &[String]) -> Result<Given, Fault>
+    ensures { result ≡ given_by command (map string_bytes words.now) }
 {
     let mut given = Given::default();
     let mut words = words.iter().enumerate();
     while let Some((place, word)) = words.next() {
         if is_option(word.as_str()) {
             let flag = given
-                .next_flag(word.as_str())
+                .next_flag(command, word.as_str())
                 .map_err(|reason| Fault { place, reason })?;
             let Some((place, value)) = words.next() else {
                 return Err(Fault {
@@ -187,7 +221,7 @@ pub fn parse_options(words: &[String]) -> Result<Given, Fault>
                 });
             };
             given = given
-                .with_value(flag, value.as_str())
+                .with_value(flag, place, value.as_str())
                 .map_err(|reason| Fault { place, reason })?;
         }
     }
@@ -231,7 +265,7 @@ mod tests {
 
     fn options(rt: &HostRuntime, text: &str) -> Result<Result<HostOptions, Fault>, Fail> {
         let words = words(rt, text)?;
-        Ok(parse_options(words.as_slice()).map(Given::host_options))
+        Ok(parse_options(Command::Host, words.as_slice()).map(Given::host_options))
     }
 
     fn host(
@@ -315,6 +349,39 @@ mod tests {
             ],
         )?;
         assert_eq!(rt; wrong, None);
+        Ok(())
+    }
+
+    #[test]
+    fn plan_options(rt: HostRuntime) -> Result<(), Fail> {
+        let given = words(&rt, "a --out b --room 11 c")?;
+        let parsed = parse_options(Command::Plan, given.as_slice());
+        assert_eq!(rt;
+            parsed.map(|given| (given.room, given.out)),
+            Ok((Some(11), Some(2)))
+        );
+        let unknown = Fault {
+            place: 1,
+            reason: Reason::Unknown,
+        };
+        for text in ["a --delay 8", "a --layers v", "a --Room 8"] {
+            let given = words(&rt, text)?;
+            assert_eq!(rt;
+                parse_options(Command::Plan, given.as_slice()),
+                Err(unknown)
+            );
+        }
+        let given = words(&rt, "a --room 8")?;
+        assert_eq!(rt;
+            parse_options(Command::Host, given.as_slice()),
+            Err(unknown)
+        );
+        let given = words(&rt, "--out a --out b")?;
+        let twice = Fault {
+            place: 2,
+            reason: Reason::Twice(Flag::Out),
+        };
+        assert_eq!(rt; parse_options(Command::Plan, given.as_slice()), Err(twice));
         Ok(())
     }
 

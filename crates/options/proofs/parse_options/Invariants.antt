@@ -7,5 +7,5 @@ use Rattle.options.proofs.parse_options.Given as goal
 -- what is left gives the values
 abbrev pub invariant-loop-place : goal.invariant-loop-place
 invariant-loop-place l =
-    given_from (enumerate_count l.words) l.given None (map string_bytes (iter_rest (enumerate_source l.words)))
-    ≡ given_by (map string_bytes l.fn.words)
+    given_from l.command (enumerate_count l.words) l.given None (map string_bytes (iter_rest (enumerate_source l.words)))
+    ≡ given_by l.fn.command (map string_bytes l.fn.words)
