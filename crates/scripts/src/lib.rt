@@ -1,10 +1,10 @@
 // Scripts as files and texts: what the commands `lines` and `pack` read, print and write.
 #![tactic(auto)]
 
-ghost use Rattle.std.specs.Prelude.{◌≡◌, ◌+◌, ◌^◌, ◌<◌, map, is_err, ok_or, option_to_list, IfOk, MatchResult, vec_items, string_bytes, [], Ok};
+ghost use Rattle.std.specs.Prelude.{◌≡◌, ◌+◌, ◌^◌, ◌<◌, flat_map, map, is_err, ok_or, option_to_list, IfOk, MatchResult, vec_items, string_bytes, [], Ok};
 ghost use Rattle.console.specs.Told.{Told, report};
 ghost use Rattle.scripts.specs.Scripts.{pack_text_of, refusal_text_of, line_text, lines_text, lines_refused};
-ghost use Rattle.scripts.specs.Scripts.{word_of, script_lines_of, line_of, packed, packed_line, passed, line_orders, orders_of};
+ghost use Rattle.scripts.specs.Scripts.{word_of, script_lines_of, line_bytes_of, line_of, packed, packed_line, passed, line_orders, orders_of};
 
 use console::failure::Failure;
 use lines::refusal::LineRefusal;
@@ -92,6 +92,17 @@ pub fn script_lines(alloc: Global, bytes: &[u8]) -> Result<Vec<u32>, Failure<Cut
         return Err(Failure::Refused(CutShort));
     };
     Ok(read_words(alloc, words)?)
+}
+
+// The bytes of a script file with the lines.
+pub fn script_bytes(alloc: Global, lines: &[u32]) -> Result<Vec<u8>, AllocError>
+    ensures { IfOk result (λ v. v.items ≡ flat_map line_bytes_of lines.now) }
+{
+    let mut bytes = Vec::new(alloc);
+    for line in lines {
+        bytes.extend_from_slice(&line.to_be_bytes())?;
+    }
+    Ok(bytes)
 }
 
 // The bytes of the line of an order, which stands at a place.
