@@ -1,2 +1,4 @@
 pub mod Naming
+pub mod Climbing
+pub mod Wanting
 pub mod Promising

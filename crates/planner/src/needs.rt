@@ -1,16 +1,14 @@
 // The pairs that a goal needs.
-ghost use Rattle.std.specs.Prelude.{◌≡◌, ◌==◌, ◌&&◌, ◌||◌, ◌<◌, ◌≤◌, ℕ, drop, length, true};
-ghost use Rattle.model.specs.Search.{any};
+ghost use Rattle.std.specs.Prelude.{◌≡◌, ◌∷◌, ◌<◌, ℕ, true};
 ghost use Rattle.universe.specs.Sets.{has};
 ghost use Rattle.plans.specs.Lists.{listed};
-ghost use Rattle.plans.specs.Closing.{supplier_rank};
 ghost use Rattle.plans.specs.Needs.{needed, path_requires};
 ghost use Rattle.closing.specs.Order.{pairs_in_order, universe_in_order};
 ghost use Rattle.planner.specs.Goals.{goal_of};
-ghost use Rattle.planner.specs.Held.{NeededFits, pairs_of_needed, supplies};
+ghost use Rattle.planner.specs.Held.{NeededFits, is_needed, pairs_of_needed, supplies};
 
 use crate::goal::has_pair;
-use crate::path::{FIRST_PAIR, path_of};
+use crate::path::{FIRST_PAIR, pair_at, path_of};
 use closing::order::ClosingOrder;
 use model::pair::Pair;
 use universe::sets::Field;
@@ -30,6 +28,18 @@ impl Needed {
     {
         &self.pairs[self.from..]
     }
+
+    // Puts a pair in front of the others.
+    #[tactic(auto, using(crate::proofs::Climbing::front_filled))]
+    fn push_front(&mut self, pair: Pair)
+        requires fits { NeededFits self.now }
+        requires room { 0 < self.now.from }
+        ensures fits { NeededFits self.new }
+        ensures pairs { pairs_of_needed self.new ≡ pair ∷ pairs_of_needed self.old }
+    {
+        self.from -= 1;
+        self.pairs[self.from] = pair;
+    }
 }
 
 // The ports that some pair on the path of a listed pair requires.
@@ -40,7 +50,10 @@ fn path_ports(order: &ClosingOrder, pair: Pair) -> u32
     let path = path_of(order, pair);
     let mut ports = 0;
     for state in path.states() {
-        ports |= order.universe().entry(u32::from(pair.kind), u32::from(*state)).required;
+        ports |= order
+            .universe()
+            .entry(u32::from(pair.kind), u32::from(*state))
+            .required;
     }
     ports
 }
@@ -54,22 +67,30 @@ fn supplies(order: &ClosingOrder, ports: u32, rank: usize) -> bool
     })
 }
 
-// The pairs that the goal needs, by rank: found from the highest rank down, since a supplier always has a lower rank than
-// the pairs that need it.
+// Whether the pair of the rank is in the goal, or the supplier of one of the ports.
+fn is_needed(order: &ClosingOrder, goal: &[u8], ports: u32, rank: usize) -> bool
+    ensures { result ≡ is_needed (universe_in_order order.now) (pairs_in_order order.now) (goal_of goal.now) ports rank }
+{
+    has_pair(goal, pair_at(order, rank)) || supplies(order, ports, rank)
+}
+
+// The pairs that the goal needs, by rank: found from the highest rank down, since a supplier always
+// has a lower rank than the pairs that need it.
 pub(crate) fn needed_pairs(order: &ClosingOrder, goal: &[u8]) -> Needed
     ensures fits { NeededFits result }
     ensures pairs { pairs_of_needed result ≡ needed (universe_in_order order.now) (pairs_in_order order.now) (goal_of goal.now) }
 {
-    let mut pairs = [FIRST_PAIR; 128];
-    let mut from = 128;
+    let mut needed = Needed {
+        pairs: [FIRST_PAIR; 128],
+        from: 128,
+    };
     let mut wanted = 0;
     for rank in (0..order.len()).rev() {
-        let pair = order.pair(rank).unwrap_or(FIRST_PAIR);
-        if has_pair(goal, pair) || supplies(order, wanted, rank) {
-            from -= 1;
-            pairs[from] = pair;
+        if is_needed(order, goal, wanted, rank) {
+            let pair = pair_at(order, rank);
+            needed.push_front(pair);
             wanted |= path_ports(order, pair);
         }
     }
-    Needed { pairs, from }
+    needed
 }
