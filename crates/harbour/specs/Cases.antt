@@ -1,15 +1,12 @@
 -- Worked cases.
-use Rattle.std.specs.Prelude.{◌≡◌, ℕ, length, Ok, Err}
-use Rattle.model.specs.declared.binding.Binding.{Binding}
+use Rattle.std.specs.Prelude.{◌≡◌, length, Ok, Err}
 use Rattle.model.specs.declared.order.Order.TheVariants.{Create, Bind, Unbind}
 use Rattle.lines.specs.declared.refusal.LineRefusal.TheVariants.{NotALine}
 use Rattle.universe.specs.Packed.{packed_form}
+use Rattle.plans.specs.Plan.{binding}
 use Rattle.harbour.specs.Harbour.{harbour, harbour_file}
+use Rattle.harbour.specs.Plans.{PlanCases}
 use Rattle.lines.specs.Line.{encoded, decoded}
-
--- a binding of its port, its provider and its requirer
-abbrev pub binding : ℕ → ℕ → ℕ → Binding
-binding p x y = record { port = p; provider = x; requirer = y }
 
 -- lines of orders, and numbers that are no lines
 pub record LineCases : Type 0 where
@@ -36,3 +33,4 @@ pub record FileCases : Type 0 where
 pub record HarbourCases : Type 0 where
   pub file : FileCases
   pub lines : LineCases
+  pub plans : PlanCases

@@ -24,6 +24,10 @@ harbour = record {
   next = λ t q n. (n == suc q) && nat_lt n (counts t);
 }
 
+-- the goal of a dispatcher that serves: type 2 in state 2
+abbrev pub harbour_goal : List ℕ
+harbour_goal = 0x24 ∷ []
+
 -- its file
 abbrev pub harbour_file : List ℕ
 harbour_file =

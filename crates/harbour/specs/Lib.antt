@@ -1,2 +1,3 @@
 pub mod Harbour
+pub mod Plans
 pub mod Cases

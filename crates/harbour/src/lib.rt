@@ -3,7 +3,7 @@
 
 ghost use Rattle.std.specs.Prelude.{◌≡◌};
 ghost use Rattle.harbour.specs.Cases.{HarbourCases};
-ghost use Rattle.harbour.specs.Harbour.{harbour_file};
+ghost use Rattle.harbour.specs.Harbour.{harbour_file, harbour_goal};
 
 // The file of the harbour universe.
 pub fn universe_file() -> [u8; 68]
@@ -16,7 +16,15 @@ pub fn universe_file() -> [u8; 68]
        \x30\0\0\0\0\0\0\0\0\x40\0\0\0\0\x80\0\0\0\x20\0\0\0\0\x40\0\0\0\0"
 }
 
-// The worked cases hold, jointly: the harbour universe has this file, and these orders have these lines.
+// The goal of a dispatcher that serves, a byte for its one line.
+pub fn goal() -> [u8; 1]
+    ensures { result ≡ harbour_goal }
+{
+    [0x24]
+}
+
+// The worked cases hold, jointly: the harbour universe has this file, these orders have these lines, and these goals have
+// these scripts.
 pub fn cases_hold()
     ensures { HarbourCases }
 {}

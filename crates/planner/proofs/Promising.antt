@@ -168,6 +168,3 @@ module _ (u : Universe) (bs : List ℕ) (ok : Valid u) where
           let lines : All (λ o. IsOk (encoded o)) os = rw w.2 (lines_law u (goal_of bs) ok few) in
           let told = written_told xs os n lines (sym (ap (λ p. plan_answer p (length xs)) q) ∙ sym is ∙ e) in
           (w.0, (os, told, rw w.2 ((reach_law u (goal_of bs) ok).0 w.1)))
-
-pub both : (u : Universe) (bs xs : List ℕ) (r : Result ℕ PlanRefusal) → Valid u → r ≡ plan_answer (planned u bs) (length xs) → RefusedExactly u bs r × WritesRun u bs r (list_after (planned u bs) xs)
-both u bs xs r ok is = (refused_exactly u bs ok (length xs) r is, writes_run u bs ok xs r is)

@@ -3,4 +3,3 @@ pub mod Goals
 pub mod Held
 pub mod Writing
 pub mod Planning
-pub mod Scratch

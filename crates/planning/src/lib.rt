@@ -2,3 +2,4 @@
 #![tactic(auto)]
 
 pub mod closing_text;
+pub mod plan_lines;

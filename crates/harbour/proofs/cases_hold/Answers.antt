@@ -1,5 +1,5 @@
-use Rattle.harbour.proofs.Cases.{file_cases, line_cases}
+use Rattle.harbour.proofs.Cases.{file_cases, line_cases, plan_cases}
 use Rattle.harbour.proofs.cases_hold.Goals as goal
 
 pub returns : goal.returns
-returns c = record { file = file_cases; lines = line_cases }
+returns c = record { file = file_cases; lines = line_cases; plans = plan_cases }
