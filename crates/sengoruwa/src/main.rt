@@ -3,13 +3,18 @@
 
 use console::describe::universe_report;
 use console::failure::Failure;
+use console::hex::parse_hex;
 use harbour::universe_file;
 use model::order::Order;
-use options::{Fault, Flag, HostOptions, Layers, Reason, parse_options, plain_place};
+use options::{
+    Command, Fault, Flag, Given, HostOptions, Layers, Reason, parse_options, plain_place,
+};
 use piles::host_command_report;
+use planning::closing_text::closing_report;
+use planning::plan_lines::{MOST_LINES, plan_lines};
 use scripts::{
     NoOrder, PackFault, lines_report, pack_orders, pack_text, parse_orders, refusal_text,
-    script_lines,
+    script_bytes, script_lines,
 };
 use std::alloc::{AllocError, Global};
 use std::process::ExitCode;
@@ -18,28 +23,19 @@ use std::{env, fmt, fs, io};
 const USAGE: &str = "usage:
   sengoruwa demo                 the harbour example from beginning to end
   sengoruwa universe UNIVERSE    show the universe that a packed file holds
+  sengoruwa closing UNIVERSE     show its closing order: the pairs that can be reached, by rank
+  sengoruwa plan UNIVERSE GOAL [--room N] [--out FILE]
+                                 plan a goal, and show the script; --out also writes it packed
   sengoruwa lines SCRIPT         show the orders of a packed script
   sengoruwa pack ORDERS FILE     pack the orders of a text file into a script
   sengoruwa host UNIVERSE ORDERS [OPTIONS]
                                  give the orders of a text file to a fresh host, one by one
+A goal is its bytes in hexadecimal digits, as 24, or @PATH for a file of these bytes: for each line type 4 bits, state 3,
+one zero bit. --room N is how many lines the script may have.
 The options of a host: --instances N (256), --bindings N (2048), the most that may stand; --delay D (0), how many
 orders are put off before each that is not; --layers WORD, a letter for each layer from the bottom up: v or vv.
 An order is written as one of: c INSTANCE TYPE (create), b PORT PROVIDER REQUIRER (bind),
 s INSTANCE STATE (change), u PORT PROVIDER REQUIRER (unbind), d INSTANCE (delete).";
-
-// The orders of the harbour example.
-const HARBOUR_ORDERS: &[u8] = b"c 0 0
-s 0 1
-c 1 1
-b 0 0 1
-s 1 1
-c 2 2
-b 0 0 2
-s 2 1
-b 1 1 2
-s 2 2
-u 0 0 2
-";
 
 // How the program was called wrongly, and what to do.
 #[derive(Clone, Copy)]
@@ -49,6 +45,7 @@ enum Misuse<'a> {
     Unwritable(&'a str),
     CutShort,
     NoOrder { line: usize, path: &'a str },
+    NoGoal(&'a str),
     Option { word: &'a str, reason: Reason },
     // An example of the program's own cannot be used.
     Example(&'a str),
@@ -70,6 +67,10 @@ impl fmt::Display for Misuse<'_> {
             Misuse::NoOrder { line, path } => write!(
                 f,
                 "line {line} of {path} writes no order: write it as in the usage text"
+            ),
+            Misuse::NoGoal(word) => write!(
+                f,
+                "{word}: no goal: write its bytes in hexadecimal digits, as 24, or @PATH for a file of them"
             ),
             Misuse::Option { word, reason } => write!(f, "{word}: {}", fault_text(*reason)),
             Misuse::Example(message) => f.write_str(message),
@@ -129,6 +130,11 @@ fn read_file<'a>(rt: &HostRuntime, path: &'a str) -> Result<Vec<u8>, Misuse<'a>>
 fn show_universe<'a>(rt: &HostRuntime, path: &'a str) -> Result<(), Stop<'a>> {
     let bytes = read_file(rt, path)?;
     Ok(rt.print(universe_report(rt.alloc(), &bytes)?)?)
+}
+
+fn show_closing<'a>(rt: &HostRuntime, path: &'a str) -> Result<(), Stop<'a>> {
+    let bytes = read_file(rt, path)?;
+    Ok(rt.print(closing_report(rt.alloc(), &bytes)?)?)
 }
 
 fn show_lines<'a>(rt: &HostRuntime, path: &'a str) -> Result<(), Stop<'a>> {
@@ -198,19 +204,57 @@ fn plain_word(words: &[String], nth: usize) -> Option<&str> {
     Some(word.as_str())
 }
 
-// Gives the orders of a text file to a fresh host of the universe.
-fn host<'a>(rt: &HostRuntime, words: &'a [String]) -> Result<(), Stop<'a>> {
-    let given = parse_options(words).map_err(|fault| misused_option(words, fault))?;
-    let (Some(universe), Some(orders), None) = (
+// The command's options among the words.
+fn command_options(command: Command, words: &[String]) -> Result<Given, Misuse<'_>> {
+    parse_options(command, words).map_err(|fault| misused_option(words, fault))
+}
+
+// The plain words of a command that has two.
+fn two_words(words: &[String]) -> Result<(&str, &str), Misuse<'_>> {
+    match (
         plain_word(words, 0),
         plain_word(words, 1),
         plain_word(words, 2),
-    ) else {
-        return Err(Stop::Misused(Misuse::Usage));
-    };
+    ) {
+        (Some(first), Some(second), None) => Ok((first, second)),
+        _ => Err(Misuse::Usage),
+    }
+}
+
+// Gives the orders of a text file to a fresh host of the universe.
+fn host<'a>(rt: &HostRuntime, words: &'a [String]) -> Result<(), Stop<'a>> {
+    let given = command_options(Command::Host, words)?;
+    let (universe, orders) = two_words(words)?;
     let universe = read_file(rt, universe)?;
     let orders = read_orders(rt, orders)?;
     Ok(rt.print(host_command_report(rt.alloc(), &universe, given.host_options(), &orders)?)?)
+}
+
+// The bytes of a goal, from the word or from the file that it names.
+fn read_goal<'a>(rt: &HostRuntime, word: &'a str) -> Result<Vec<u8>, Stop<'a>> {
+    if let Some(path) = word.strip_prefix("@") {
+        return Ok(read_file(rt, path)?);
+    }
+    let bytes = parse_hex(rt.alloc(), word.as_bytes()).map_err(|failure| failure.map(
+        |_| Misuse::NoGoal(word),
+    ))?;
+    Ok(bytes)
+}
+
+// Plans the goal, writes the script to the file that an option names, and shows it.
+fn plan<'a>(rt: &HostRuntime, words: &'a [String]) -> Result<(), Stop<'a>> {
+    let given = command_options(Command::Plan, words)?;
+    let (universe, goal) = two_words(words)?;
+    let universe = read_file(rt, universe)?;
+    let goal = read_goal(rt, goal)?;
+    let room = given.room.map_or(MOST_LINES, |room| room as usize);
+    let lines = plan_lines(rt.alloc(), &universe, &goal, room)?;
+    if let Some(path) = given.out.and_then(|place| words.get(place)) {
+        let bytes = script_bytes(rt.alloc(), &lines)?;
+        fs::write(rt, path.as_str(), bytes.as_slice())
+            .map_err(|_| Misuse::Unwritable(path.as_str()))?;
+    }
+    Ok(rt.print(lines_report(rt.alloc(), &lines)?)?)
 }
 
 // A slow cloud with one layer that refuses gaps.
@@ -239,25 +283,23 @@ fn demo(rt: &HostRuntime) -> Result<(), Stop<'static>> {
     let alloc = rt.alloc();
     println!(rt; "The harbour universe, read from its file of 68 bytes:")?;
     rt.print(universe_report(alloc, &universe_file())?)?;
-    println!(rt; "The harbour script, packed into lines and read from them again:")?;
-    let orders = parse_orders(alloc, HARBOUR_ORDERS).map_err(|failure| failure.map(
-        |_| Misuse::Example("the orders of the example cannot be read"),
-    ))?;
-    let bytes = pack_orders(alloc, &orders).map_err(|failure| failure.map(|_| Misuse::Example(
-        "the orders of the example cannot be packed",
-    )))?;
-    let lines = script_lines(alloc, &bytes).map_err(|failure| failure.map(|_| Misuse::Example(
-        "the script of the example cannot be read",
-    )))?;
-    rt.print(lines_report(alloc, &lines)?)?;
+    println!(rt; "Its closing order, the pairs that a run can bring about:")?;
+    rt.print(closing_report(alloc, &universe_file())?)?;
+    println!(rt; "The goal 24, a dispatcher (type 2) that serves (state 2), planned:")?;
+    let lines = plan_lines(alloc, &universe_file(), &harbour::goal(), MOST_LINES)?;
+    let script = lines_report(alloc, &lines)?;
+    rt.print(script.as_str())?;
     rt.print(pack_text(alloc, lines.len())?)?;
     println!(rt;
-        "The same orders on a slow host, a cloud that puts two orders off before each that it takes, under a layer that"
+        "Its orders on a slow host, a cloud that puts two orders off before each that it takes, under a layer that"
     )?;
     println!(rt;
         "refuses gaps. So each is given three times. The last one is also given too early: the layer refuses it (30), and"
     )?;
     println!(rt; "the cloud below, which was not asked, takes the next order at once:")?;
+    let orders = parse_orders(alloc, script.as_bytes()).map_err(|failure| failure.map(
+        |_| Misuse::Example("the script of the example cannot be read"),
+    ))?;
     let given = orders_with_one_early(alloc, &orders)?;
     Ok(rt.print(host_command_report(alloc, &universe_file(), SLOW_HOST, &given)?)?)
 }
@@ -267,6 +309,8 @@ fn run<'a>(rt: &HostRuntime, words: &'a [String]) -> Result<(), Stop<'a>> {
     match words {
         [command] if command.as_str() == "demo" => demo(rt),
         [command, file] if command.as_str() == "universe" => show_universe(rt, file.as_str()),
+        [command, file] if command.as_str() == "closing" => show_closing(rt, file.as_str()),
+        [command, rest @ ..] if command.as_str() == "plan" => plan(rt, rest),
         [command, file] if command.as_str() == "lines" => show_lines(rt, file.as_str()),
         [command, orders, file] if command.as_str() == "pack" => {
             pack(rt, orders.as_str(), file.as_str())
