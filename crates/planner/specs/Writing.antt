@@ -1,13 +1,16 @@
 -- Lines written into a caller's list.
-use Rattle.std.specs.Prelude.{◌≡◌, ℕ, ◌+◌, ◌<◌, ◌≤◌, Bool, not, ◌&&◌, cond, List, [], ◌∷◌, length, min, set, slice_index, true}
+use Rattle.std.specs.Prelude.{◌≡◌, ℕ, ◌+◌, ◌-◌, ◌^◌, ◌<◌, ◌≤◌, not, ◌&&◌, List, [], ◌∷◌, length, min, set, slice_index, true}
 use Rattle.model.specs.declared.binding.Binding.{Binding}
 use Rattle.model.specs.declared.order.Order.{Order}
 use Rattle.model.specs.declared.order.Order.TheVariants.{Bind, Unbind}
-use Rattle.model.specs.Universe.{Universe}
+use Rattle.model.specs.declared.pair.Pair.{Pair}
 use Rattle.universe.specs.Sets.{has}
 use Rattle.lines.specs.Line.{fields_of_order, line_of_fields}
-use Rattle.plans.specs.Lists.{lists_below}
-use Rattle.plans.specs.Plan.{binding, order_if}
+use Rattle.plans.specs.Lists.{listed, lists_below}
+use Rattle.plans.specs.Plan.{Plan, binding, order_if}
+use Rattle.plans.specs.Script.{plan_for}
+use Rattle.closing.specs.declared.order.ClosingOrder.{ClosingOrder}
+use Rattle.closing.specs.Order.{pairs_in_order, universe_in_order}
 use Rattle.planner.specs.declared.writing.Link.{Link}
 use Rattle.planner.specs.declared.writing.Link.TheVariants.{Made, Ended}
 
@@ -17,7 +20,7 @@ line_of o = line_of_fields (fields_of_order o)
 
 -- the place behind a place; the last that can be counted is its own
 abbrev pub behind : ℕ → ℕ
-behind k = min (k + 1) 18446744073709551615
+behind k = min (k + 1) (2 ^ 64 - 1)
 
 -- xs with the lines of the orders from the place k on, as far as it has places
 unfoldable pub written_at : List ℕ → ℕ → List Order → List ℕ
@@ -39,7 +42,23 @@ abbrev pub linked : Link → Binding → Order
 linked Made b = Bind b
 linked Ended b = Unbind b
 
--- in port order, for each port in the set after and not in the set before: the order for the binding to its supplier
-abbrev pub links : Universe → Link → ℕ → List ℕ → ℕ → ℕ → List Order
-links u link z suppliers before after =
-    lists_below (λ p. order_if (has 32 after p && not (has 32 before p)) (linked link (binding p (slice_index suppliers p) z))) u.ports
+-- in port order, for each port below n in the set after and not in the set before: the order for the binding to its
+-- supplier
+abbrev pub links : ℕ → Link → (ℕ → ℕ) → ℕ → ℕ → ℕ → List Order
+links n link supplier z before after =
+    lists_below (λ p. order_if (has 32 after p && not (has 32 before p)) (linked link (binding p (supplier p) z))) n
+
+-- the plan for the pairs ns of the closing order
+abbrev pub plan_on : ClosingOrder → List Pair → Plan
+plan_on o ns = plan_for (universe_in_order o) (pairs_in_order o) ns
+
+-- each of the pairs ns is listed in l
+abbrev pub AllListed : List Pair → List Pair → Type 0
+AllListed l ns = (h : Pair) → listed ns h ≡ true → listed l h ≡ true
+
+-- the pairs ns are listed, there are no more of them than pairs can be, and the suppliers, by port, are those of the plan for
+-- them
+pub record Planned (o : ClosingOrder) (ns : List Pair) (suppliers : List ℕ) : Type 0 where
+  pub few : length ns ≤ 128
+  pub sub : AllListed (pairs_in_order o) ns
+  pub supplied : (p : ℕ) → p < 32 → slice_index suppliers p ≡ (plan_on o ns).supplier p

@@ -1,29 +1,33 @@
 // Writing the lines of a script.
-ghost use Rattle.std.specs.Prelude.{◌≡◌, ◌∷◌, [], ◌<◌, ◌≤◌, ◌&&◌, ℕ, IsOk, length, not, slice_index, true};
-ghost use Rattle.model.specs.Universe.{IsPair};
+ghost use Rattle.std.specs.Prelude.{◌≡◌, ◌∷◌, [], ◌<◌, ◌≤◌, ◌&&◌, ℕ};
+ghost use Rattle.std.specs.Prelude.{IsOk, length, not, position, slice_index};
+ghost use Rattle.std.specs.List.{All};
+ghost use Rattle.model.specs.declared.order.Order.TheVariants.{Change, Create};
 ghost use Rattle.lines.specs.Line.{encoded};
 ghost use Rattle.universe.specs.Sets.{has};
-ghost use Rattle.plans.specs.Lists.{listed, lists_below, pair_at, rank_of};
-ghost use Rattle.plans.specs.Closing.{supplier_rank};
-ghost use Rattle.plans.specs.Plan.{binding, build, order_if, script_of, step};
-ghost use Rattle.plans.specs.Script.{plan_for};
-ghost use Rattle.closing.specs.Order.{pairs_in_order, universe_in_order};
-ghost use Rattle.planner.specs.Writing.{Wrote, linked, links};
+ghost use Rattle.universe.specs.Tables.{entry_at};
+ghost use Rattle.plans.specs.Lists.{pair_at, rank_of, same_pair};
+ghost use Rattle.plans.specs.Plan.{binding, build, script_of, step, walk};
+ghost use Rattle.closing.specs.Order.{pairs_in_order};
+ghost use Rattle.planner.specs.Writing.{AllListed, Planned, Wrote, line_of, linked, links, plan_on};
 
-use crate::path::{FIRST_PAIR, path_of};
+use crate::path::{pair_at, path_of};
 use closing::order::ClosingOrder;
 use lines::encode;
 use model::binding::Binding;
 use model::order::Order;
 use model::pair::Pair;
+use std::array;
 use universe::sets::Field;
 
-// What is planned: the closing order, the pair of each instance by its number, and for each port the number of the instance
-// that supplies it.
+// What is planned: the closing order, the pair of each instance by its number, and for each port
+// the number of the instance that supplies it.
+#[derive(Clone, Copy)]
 pub(crate) struct Plan<'a> {
     order: &'a ClosingOrder,
     pairs: &'a [Pair],
     suppliers: [u8; 32],
+    ghost planned: { Planned order.now pairs.now suppliers },
 }
 
 // The two orders that a binding is made into. An enum and no closure, since clauses speak of it.
@@ -45,27 +49,162 @@ impl Link {
     }
 }
 
-// The place of the pair in the list; its length where the pair is not in it.
+// The place of the pair in the list, if it is in it.
+fn place_of(pairs: &[Pair], pair: Pair) -> Option<usize>
+    ensures { result ≡ position (same_pair pair) pairs.now }
+{
+    pairs.iter().position(|other| pair == *other)
+}
+
+// The number of the pair: its place in the list, or the list's length where it is not in it.
+#[tactic(auto, using(crate::proofs::Linking::found_or_length))]
 fn number_of(pairs: &[Pair], pair: Pair) -> usize
     ensures { result ≡ rank_of pairs.now pair }
 {
-    pairs.iter().position(|other| pair == *other).unwrap_or(pairs.len())
+    place_of(pairs, pair).unwrap_or(pairs.len())
+}
+
+// The number of the pair that supplies the port.
+#[tactic(auto, using(crate::proofs::Linking::rank_most))]
+fn supplier_of(order: &ClosingOrder, pairs: &[Pair], port: u32) -> u8
+    requires { length pairs.now ≤ 128 }
+    ensures { result ≡ (plan_on order.now pairs.now).supplier port }
+{
+    let supplier = pair_at(order, order.supplier(port));
+    // `as` loses nothing: there are at most 128 pairs.
+    number_of(pairs, supplier) as u8
+}
+
+// For each port the number of the pair that supplies it.
+fn suppliers_of(order: &ClosingOrder, pairs: &[Pair]) -> [u8; 32]
+    requires { length pairs.now ≤ 128 }
+    ensures { (p : ℕ) → p < 32 → slice_index result p ≡ (plan_on order.now pairs.now).supplier p }
+{
+    array::from_fn(|port| supplier_of(order, pairs, port as u32))
+}
+
+// Whether the port is in the set `after` and not in the set `before`.
+fn is_new(before: u32, after: u32, port: u32) -> bool
+    ensures { result ≡ (has 32 after port && not (has 32 before port)) }
+{
+    after.has(port) && !before.has(port)
+}
+
+// The order to create an instance of a type.
+fn create(number: u8, kind: u8) -> Order
+    ensures { result ≡ Create number kind }
+{
+    Order::Create {
+        instance: u32::from(number),
+        kind: u32::from(kind),
+    }
+}
+
+// The order to change the state of an instance.
+fn change(number: u8, state: u8) -> Order
+    ensures { result ≡ Change number state }
+{
+    Order::Change {
+        instance: u32::from(number),
+        state: u32::from(state),
+    }
+}
+
+// The line of an order that has one.
+fn line_of(order: Order) -> u32
+    requires { IsOk (encoded order) }
+    ensures { result ≡ line_of order }
+{
+    encode(order).unwrap()
 }
 
 // Writes the line of the order at the place, if the list has that place, and answers the next.
+#[tactic(auto, using(crate::proofs::Placing::wrote_line, crate::proofs::Placing::wrote_past))]
 fn put(lines: &mut [u32], place: usize, order: Order) -> usize
     requires { IsOk (encoded order) }
     ensures { Wrote lines.old place (order ∷ []) lines.new result }
 {
-    if let Some(line) = lines.get_mut(place) {
-        *line = encode(order).unwrap();
+    if place < lines.len() {
+        lines[place] = line_of(order);
     }
     place.saturating_add(1)
 }
 
-impl Plan<'_> {
-    // In port order, for each port that is in the set `after` and not in the set `before`: the order for the binding to the
-    // port's supplier.
+impl<'a> Plan<'a> {
+    ghost use Rattle.planner.specs.Scripts.{plan_of, universe_planned};
+
+    // The plan for listed pairs.
+    pub(crate) fn of(order: &'a ClosingOrder, pairs: &'a [Pair]) -> Self
+        requires few { length pairs.now ≤ 128 }
+        requires listed { AllListed (pairs_in_order order.now) pairs.now }
+        ensures order { result.order.now ≡ order.now }
+        ensures pairs { result.pairs.now ≡ pairs.now }
+    {
+        Plan {
+            order,
+            pairs,
+            suppliers: suppliers_of(order, pairs),
+        }
+    }
+
+    // The pair of the instance.
+    fn pair(&self, number: u8) -> Pair
+        requires { number < length self.now.pairs.now }
+        ensures { result ≡ pair_at self.now.pairs.now number }
+    {
+        self.pairs[usize::from(number)]
+    }
+
+    // The number of the instance that supplies the port. `as`, since `usize` has no `From<u32>`.
+    fn supplier(&self, port: u32) -> u8
+        requires { port < 32 }
+        ensures { result ≡ (plan_of self.now).supplier port }
+    {
+        self.suppliers[port as usize]
+    }
+
+    // The binding of the instance to the supplier of the port.
+    fn binding(&self, port: u32, number: u8) -> Binding
+        requires { port < 32 }
+        ensures { result ≡ binding port ((plan_of self.now).supplier port) number }
+    {
+        Binding {
+            port,
+            provider: u32::from(self.supplier(port)),
+            requirer: u32::from(number),
+        }
+    }
+
+    // The ports that the type of the instance requires in the state.
+    fn required(&self, number: u8, state: u8) -> u32
+        requires { number < length self.now.pairs.now }
+        ensures { result ≡ (entry_at self.now.order.now.universe.tables ((plan_of self.now).kind number) state).required }
+    {
+        let pair = self.pair(number);
+        self.order
+            .universe()
+            .entry(u32::from(pair.kind), u32::from(state))
+            .required
+    }
+
+    // Writes the order for the binding of the instance to the supplier of the port.
+    #[tactic(auto, using(crate::proofs::Linking::link_in_line, crate::proofs::Linking::rank_most))]
+    fn write_link(
+        &self,
+        lines: &mut [u32],
+        place: usize,
+        link: Link,
+        number: u8,
+        port: u32,
+    ) -> usize
+        requires { port < 32 }
+        ensures { Wrote lines.old place (linked link (binding port ((plan_of self.now).supplier port) number) ∷ []) lines.new result }
+    {
+        put(lines, place, link.order(self.binding(port, number)))
+    }
+
+    // Writes, in port order, for each port that is in the set `after` and not in the set `before`,
+    // the order for the binding to its supplier.
     fn write_links(
         &self,
         lines: &mut [u32],
@@ -75,67 +214,66 @@ impl Plan<'_> {
         before: u32,
         after: u32,
     ) -> usize
-        ensures { Wrote lines.old place (links (universe_in_order self.now.order.now) link number self.now.suppliers before after) lines.new result }
+        ensures { Wrote lines.old place (links (universe_planned self.now).ports link (plan_of self.now).supplier number before after) lines.new result }
     {
         let mut place = place;
-        for port in 0..self.order.universe().ports() {
-            if after.has(u32::from(port)) && !before.has(u32::from(port)) {
-                let binding = Binding {
-                    port: u32::from(port),
-                    provider: u32::from(self.suppliers[usize::from(port)]),
-                    requirer: u32::from(number),
-                };
-                place = put(lines, place, link.order(binding));
+        for port in 0..u32::from(self.order.universe().ports()) {
+            if is_new(before, after, port) {
+                place = self.write_link(lines, place, link, number, port);
             }
         }
         place
     }
 
-    // The step of the instance from a state of its type to the next: binds, the change, unbinds.
-    fn write_step(
-        &self,
-        lines: &mut [u32],
-        place: usize,
-        number: u8,
-        kind: u8,
-        from: u8,
-        to: u8,
-    ) -> usize
+    // Writes the step of the instance from one state to another: binds, the change, unbinds.
+    #[tactic(auto, using(crate::proofs::Linking::change_in_line))]
+    fn write_step(&self, lines: &mut [u32], place: usize, number: u8, from: u8, to: u8) -> usize
+        requires there { number < length self.now.pairs.now }
+        requires small { to < 8 }
+        ensures { Wrote lines.old place (step (universe_planned self.now) (plan_of self.now) number from to) lines.new result }
     {
-        let universe = self.order.universe();
-        let before = universe.entry(u32::from(kind), u32::from(from)).required;
-        let after = universe.entry(u32::from(kind), u32::from(to)).required;
+        let before = self.required(number, from);
+        let after = self.required(number, to);
         let place = self.write_links(lines, place, Link::Made, number, before, after);
-        let order = Order::Change {
-            instance: u32::from(number),
-            state: u32::from(to),
-        };
-        let place = put(lines, place, order);
+        let place = put(lines, place, change(number, to));
         self.write_links(lines, place, Link::Ended, number, after, before)
     }
 
-    // The instance of a pair: its create, and the steps of its path.
-    fn write_instance(&self, lines: &mut [u32], place: usize, number: u8, pair: Pair) -> usize {
-        let order = Order::Create {
-            instance: u32::from(number),
-            kind: u32::from(pair.kind),
-        };
-        let mut place = put(lines, place, order);
-        let path = path_of(self.order, pair);
+    // Writes the steps of the instance from state 0 over the states.
+    fn write_walk(&self, lines: &mut [u32], place: usize, number: u8, states: &[u8]) -> usize
+        requires there { number < length self.now.pairs.now }
+        requires small { All (λ q. q < 8) states.now }
+        ensures { Wrote lines.old place (walk (universe_planned self.now) (plan_of self.now) number 0 states.now) lines.new result }
+    {
+        let mut place = place;
         let mut from = 0;
-        for to in path.states() {
-            place = self.write_step(lines, place, number, pair.kind, from, *to);
+        for to in states {
+            place = self.write_step(lines, place, number, from, *to);
             from = *to;
         }
         place
     }
 
-    // The whole script, as far as the list has places; answers how many lines it has.
-    pub(crate) fn write(&self, lines: &mut [u32]) -> usize {
+    // Writes the create of the instance, and the steps of its pair's path.
+    fn write_instance(&self, lines: &mut [u32], place: usize, number: u8) -> usize
+        requires { number < length self.now.pairs.now }
+        ensures { Wrote lines.old place (build (universe_planned self.now) (plan_of self.now) number) lines.new result }
+    {
+        let pair = self.pair(number);
+        let place = put(lines, place, create(number, pair.kind));
+        let path = path_of(self.order, pair);
+        self.write_walk(lines, place, number, path.states())
+    }
+
+    // Writes the whole script, as far as the list has places, and answers how many lines it has.
+    // Each of these functions answers the place behind the lines that it writes.
+    pub(crate) fn write(&self, lines: &mut [u32]) -> usize
+        ensures { Wrote lines.old 0 (script_of (universe_planned self.now) (plan_of self.now)) lines.new result }
+    {
         let mut place = 0;
-        for (number, pair) in self.pairs.iter().enumerate() {
-            // `as` loses nothing: there are at most 128 pairs.
-            place = self.write_instance(lines, place, number as u8, *pair);
+        // `as` loses nothing: there are at most 128 pairs.
+        for number in 0..self.pairs.len() as u8 {
+            place = self.write_instance(lines, place, number);
         }
         place
     }

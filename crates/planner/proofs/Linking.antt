@@ -1,0 +1,176 @@
+-- The suppliers of a plan, and what is written of its links, steps, instances and script. Assumes nothing.
+use Rattle.std.proofs.Common.{List, [], ◌∷◌, ◌≡◌, ℕ, zero, suc, ◌+◌, ◌<◌, ◌≤◌, Bool, true, false, not, ◌&&◌, length, drop, get_or, ◌∙◌, subst, IsOk, All, eqb, refl, inl, inr, arith}
+use denote.Param.Members.{Mut, Called}
+use Rattle.std.specs.Array.{IsFromFnResultFrom}
+use Rattle.std.specs.List.{position, position_or_len}
+use Rattle.std.specs.Option.{unwrap_or}
+use Rattle.std.proofs.lemmas.Bool.Decides.{nat_tests}
+use Rattle.std.proofs.lemmas.Bool.{and_parts, cases_eq, cases_lt, eq-eqb, le-ltb, lt-ltb}
+use Rattle.std.proofs.lemmas.List.{drop_all, drop_more}
+use Rattle.std.proofs.lemmas.List.Folds.{list_any_at}
+use Rattle.std.proofs.lemmas.List.Sums.{prefix_len-le-length}
+use Rattle.model.specs.declared.pair.Pair.{Pair}
+use Rattle.model.specs.Config.{pair}
+use Rattle.model.specs.declared.order.Order.{Order}
+use Rattle.model.specs.declared.order.Order.TheVariants.{Create, Change}
+use Rattle.model.specs.Universe.{Universe, Valid}
+use Rattle.universe.proofs.Sounds.{sound}
+use Rattle.universe.specs.Sets.{has}
+use Rattle.universe.proofs.PackedSets.{has_below}
+use Rattle.universe.specs.Tables.{entry_at}
+use Rattle.closing.specs.declared.order.ClosingOrder.{ClosingOrder}
+use Rattle.closing.specs.Order.{pairs_in_order, universe_in_order}
+use Rattle.lines.specs.Line.{encoded}
+use Rattle.plans.specs.Plan.{Plan, binding, build, order_if, port_orders, script_of, step, walk}
+use Rattle.plans.proofs.Closed.{Closed}
+use Rattle.plans.proofs.Closings.{closing_closed}
+use Rattle.plans.proofs.Paths.{path_listed}
+use Rattle.plans.proofs.Ranks.{listed_at}
+use Rattle.plans.specs.Needs.{path}
+use Rattle.plans.specs.Lists.{listed, lists_below, pair_at, rank_of, same_pair}
+use Rattle.planner.specs.declared.writing.Link.{Link}
+use Rattle.planner.specs.declared.writing.Link.TheVariants.{Made, Ended}
+use Rattle.planner.specs.Writing.{Planned, Wrote, linked, links, plan_on}
+use Rattle.planner.proofs.Placing.{wrote_more, wrote_none, wrote_then}
+
+-- the place that a search finds, or else the length
+pub found_or_length : {X : Type 0} (f : X → Bool) (xs : List X) →
+    unwrap_or (position f xs) (length xs) ≡ position_or_len f xs
+found_or_length f xs =
+    elim (cases_lt (position_or_len f xs) (length xs)) [
+      | inl low ↦ rw (lt-ltb (position_or_len f xs) (length xs) low)
+      | inr past ↦
+          let most = prefix_len-le-length (λ x. not (f x)) xs in
+          rw (le-ltb (position_or_len f xs) (length xs) past) (omega arith)
+    ]
+
+-- a number is at most the length of the list
+pub rank_most : (l : List Pair) (h : Pair) → rank_of l h ≤ length l
+rank_most l h = prefix_len-le-length (λ g. not (same_pair h g)) l
+
+-- a list that the calls of a closure gave, each what f gives of its number
+pub made_at : {F B : Type 0} {g : Mut F (ℕ × Unit {0}) B} (f : ℕ → B) (s : F) (ys : List B) →
+    ((i : ℕ) (y : B) (t : F) → Called g s (i, tt) y t → (t ≡ s) × (y ≡ f i)) →
+    (i n : ℕ) → IsFromFnResultFrom g s ys i n → (k : ℕ) (d : B) → i ≤ k → k < i + n → get_or ys k d ≡ f k
+made_at f s ys gives i zero made k d from to = absurd (omega arith)
+made_at {F} {B} {g} f s ys gives i (suc n) (t, y, at, called, rest) k d from to =
+    let w = gives i y t called in
+    elim (cases_eq k i) [
+      | inl same ↦ rw same (at.1 d ∙ w.1)
+      | inr other ↦
+          let further = subst (λ (u : F). IsFromFnResultFrom g u ys (i + 1) n) w.0 rest in
+          made_at f s ys gives (i + 1) n further k d (omega arith) (omega arith)
+    ]
+
+-- orders with small numbers have lines
+pub create_in_line : (z t : ℕ) → z < 256 → t < 16 → IsOk (encoded (Create z t))
+create_in_line z t a b = grind (arith, nat_tests)
+
+pub change_in_line : (z q : ℕ) → z < 256 → q < 8 → IsOk (encoded (Change z q))
+change_in_line z q a b = grind (arith, nat_tests)
+
+pub link_in_line : (link : Link) (p x y : ℕ) → p < 32 → x < 256 → y < 256 → IsOk (encoded (linked link (binding p x y)))
+link_in_line Made p x y a b c = grind (arith, nat_tests)
+link_in_line Ended p x y a b c = grind (arith, nat_tests)
+
+-- a port that is new in a set is in range
+pub new_low : (before after p : ℕ) → (has 32 after p && not (has 32 before p)) ≡ true → p < 32
+new_low before after p e = has_below 32 after p (and_parts (has 32 after p) _ e).0
+
+-- an order that is written if a test holds
+module _ {b : Bool} (o : Order) where
+  pub wrote_if : {xs zs : List ℕ} {j m : ℕ} → b ≡ true → Wrote xs j (o ∷ []) zs m → Wrote xs j (order_if b o) zs m
+  wrote_if e w = rw e w
+
+  pub wrote_unless : (xs : List ℕ) (j : ℕ) → b ≡ false → Wrote xs j (order_if b o) xs j
+  wrote_unless xs j e = rw e (wrote_none xs j)
+
+-- a step is its binds, its change and its unbinds
+pub wrote_step : (c : ClosingOrder) (ns : List Pair) (z q r a b : ℕ) (o : Order) {xs ys zs ws : List ℕ} {i j k m : ℕ} →
+    a ≡ (entry_at c.universe.tables (pair_at ns z).kind q).required →
+    b ≡ (entry_at c.universe.tables (pair_at ns z).kind r).required →
+    o ≡ Change z r →
+    Wrote xs i (links (universe_in_order c).ports Made (plan_on c ns).supplier z a b) ys j →
+    Wrote ys j (o ∷ []) zs k →
+    Wrote zs k (links (universe_in_order c).ports Ended (plan_on c ns).supplier z b a) ws m →
+    Wrote xs i (step (universe_in_order c) (plan_on c ns) z q r) ws m
+unfolding step port_orders
+wrote_step c ns z q r a b o before after is made change ended =
+    wrote_then (rw (before, after) at made) (wrote_then (rw is at change) (rw (before, after) at ended))
+
+-- a walk is its steps, one behind the other
+module _ (u : Universe) (s : Plan) (z : ℕ) (rs : List ℕ) (xs : List ℕ) (j : ℕ) where
+  -- with what is left of a walk, from the state q over all but the first i states, written behind them, the whole walk
+  -- is written
+  abbrev pub Walked : ℕ → ℕ → List ℕ → ℕ → Type 0
+  Walked i q ys m =
+      (zs : List ℕ) (n : ℕ) → Wrote ys m (walk u s z q (drop i rs)) zs n → Wrote xs j (walk u s z 0 rs) zs n
+
+  -- with one step more
+  pub walk_more : (i q : ℕ) {ys zs : List ℕ} {m n : ℕ} → i < length rs → Walked i q ys m →
+      Wrote ys m (step u s z q (get_or rs i 0)) zs n → Walked (i + 1) (get_or rs i 0) zs n
+  unfolding walk
+  walk_more i q low walked here = λ ws k rest. walked ws k (rw (drop_more rs i 0 low) (wrote_then here rest))
+
+  -- with the last step
+  pub walk_ends : (i q : ℕ) {ys : List ℕ} {m : ℕ} → length rs ≤ i → Walked i q ys m →
+      Wrote xs j (walk u s z 0 rs) ys m
+  unfolding walk
+  walk_ends i q {ys} {m} past walked = walked ys m (rw (drop_all i rs past) (wrote_none ys m))
+
+-- the pair of an instance is listed, and the numbers of its create and its changes are small
+module _ (o : ClosingOrder) (ns : List Pair) (suppliers : List ℕ) (plan : Planned o ns suppliers) where
+  valid : Valid (universe_in_order o)
+  valid = (sound o.universe.tables o.universe.sound).valid
+
+  closed : Closed (universe_in_order o) (pairs_in_order o)
+  closed = closing_closed (universe_in_order o) valid
+
+  pair_listed : (z : ℕ) → z < length ns → listed (pairs_in_order o) (pair_at ns z) ≡ true
+  pair_listed z low = plan.sub (pair_at ns z) (listed_at ns z low)
+
+  pub kind_small : (z : ℕ) → z < length ns → (pair_at ns z).kind < 16
+  kind_small z low =
+      let most = valid.types.1 in
+      let there = (closed.pairs (pair_at ns z) (pair_listed z low)).0 in
+      omega arith
+
+  pub path_small : (z : ℕ) → z < length ns → All (λ q. q < 8) (path (universe_in_order o) (pairs_in_order o) (pair_at ns z))
+  path_small z low k d at =
+      let h = pair_at ns z in
+      let is_listed = pair_listed z low in
+      let rs = path (universe_in_order o) (pairs_in_order o) h in
+      let q = get_or rs k d in
+      let on = list_any_at (λ r. eqb r q) rs k d at (eq-eqb q q refl) in
+      let step = path_listed (universe_in_order o) (pairs_in_order o) closed h is_listed q on in
+      let there = closed.pairs (pair h.kind q) step.0 in
+      let most = (valid.states h.kind there.0).1 in
+      omega arith
+
+-- an instance is its create, and its walk over the path of its pair
+pub wrote_build : (c : ClosingOrder) (ns : List Pair) (z : ℕ) (o : Order) (rs : List ℕ) {xs ys zs : List ℕ} {i j k : ℕ} →
+    o ≡ Create z (pair_at ns z).kind →
+    rs ≡ path (universe_in_order c) (pairs_in_order c) (pair_at ns z) →
+    Wrote xs i (o ∷ []) ys j →
+    Wrote ys j (walk (universe_in_order c) (plan_on c ns) z 0 rs) zs k →
+    Wrote xs i (build (universe_in_order c) (plan_on c ns) z) zs k
+unfolding build
+wrote_build c ns z o rs is along made walked = wrote_then (rw is at made) (rw along at walked)
+
+-- the first n instances of a plan, one behind the other
+module _ (c : ClosingOrder) (ns : List Pair) where
+  abbrev pub instances : ℕ → List Order
+  instances = lists_below (λ z. build (universe_in_order c) (plan_on c ns) (0 + z))
+
+  -- with one instance more
+  pub wrote_instance : {xs ys zs : List ℕ} {i j k : ℕ} (n : ℕ) → Wrote xs i (instances n) ys j →
+      Wrote ys j (build (universe_in_order c) (plan_on c ns) n) zs k → Wrote xs i (instances (n + 1)) zs k
+  wrote_instance n before here =
+      let same : n ≡ 0 + n = omega arith in
+      wrote_more _ n before (rw same at here)
+
+  -- all of them are the script
+  pub wrote_script : {xs zs : List ℕ} {i k : ℕ} (n : ℕ) → n ≡ length ns → Wrote xs i (instances n) zs k →
+      Wrote xs i (script_of (universe_in_order c) (plan_on c ns)) zs k
+  unfolding script_of
+  wrote_script n all w = rw all at w
