@@ -13,7 +13,9 @@ use crate::writing::Plan;
 use closing::order::ClosingOrder;
 use universe::held::Universe;
 
-// Writes the script for the goal into the list, and answers how many lines it has; refused where the list has fewer places.
+// Writes the script for the goal into the list, and answers how many lines it has; refused where
+// the list has fewer places.
+#[tactic(auto, using(crate::proofs::Promising::script_short), unfolding(plans::specs::Script::script))]
 fn write_script(
     order: &ClosingOrder,
     goal: &[u8],
@@ -25,12 +27,7 @@ fn write_script(
 {
     let needed = needed_pairs(order, goal);
     let plan = Plan::of(order, needed.pairs());
-    let count = plan.write(&mut []);
-    if lines.len() < count {
-        return Err(PlanRefusal::Room);
-    }
-    plan.write(lines);
-    Ok(count)
+    plan.write_into(lines)
 }
 
 // Writes the script for the goal's lines into the list, and answers how many lines it has; or why not.

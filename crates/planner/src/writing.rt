@@ -1,6 +1,6 @@
 // Writing the lines of a script.
-ghost use Rattle.std.specs.Prelude.{◌≡◌, ◌∷◌, [], ◌<◌, ◌≤◌, ◌&&◌, ℕ};
-ghost use Rattle.std.specs.Prelude.{IsOk, length, not, position, slice_index};
+ghost use Rattle.std.specs.Prelude.{◌≡◌, ◌∷◌, [], ◌++◌, ◌<◌, ◌≤◌, ◌^◌, ◌&&◌, ℕ, Ok};
+ghost use Rattle.std.specs.Prelude.{IsOk, drop, length, map, not, position, slice_index};
 ghost use Rattle.std.specs.List.{All};
 ghost use Rattle.model.specs.declared.order.Order.TheVariants.{Change, Create};
 ghost use Rattle.lines.specs.Line.{encoded};
@@ -10,7 +10,9 @@ ghost use Rattle.plans.specs.Lists.{pair_at, rank_of, same_pair};
 ghost use Rattle.plans.specs.Plan.{binding, build, script_of, step, walk};
 ghost use Rattle.closing.specs.Order.{pairs_in_order};
 ghost use Rattle.planner.specs.Writing.{AllListed, Planned, Wrote, line_of, linked, links, plan_on};
+ghost use Rattle.planner.specs.Planning.{list_after, plan_answer};
 
+use crate::refusal::PlanRefusal;
 use crate::path::{pair_at, path_of};
 use closing::order::ClosingOrder;
 use lines::encode;
@@ -276,5 +278,36 @@ impl<'a> Plan<'a> {
             place = self.write_instance(lines, place, number);
         }
         place
+    }
+    // How many lines the script has.
+    fn count(&self) -> usize
+        requires { length (script_of (universe_planned self.now) (plan_of self.now)) < 2 ^ 64 }
+        ensures { result ≡ length (script_of (universe_planned self.now) (plan_of self.now)) }
+    {
+        self.write(&mut [])
+    }
+
+    // Writes the script into the list, which has room for it.
+    fn write_whole(&self, lines: &mut [u32])
+        requires short { length (script_of (universe_planned self.now) (plan_of self.now)) < 2 ^ 64 }
+        requires fits { length (script_of (universe_planned self.now) (plan_of self.now)) ≤ length lines.now }
+        ensures { lines.new ≡ map line_of (script_of (universe_planned self.now) (plan_of self.now)) ++ drop (length (script_of (universe_planned self.now) (plan_of self.now))) lines.old }
+    {
+        self.write(lines);
+    }
+
+    // Writes the script into the list, and answers how many lines it has; refused where the list
+    // has fewer places.
+    pub(crate) fn write_into(&self, lines: &mut [u32]) -> Result<usize, PlanRefusal>
+        requires { length (script_of (universe_planned self.now) (plan_of self.now)) < 2 ^ 64 }
+        ensures answer { result ≡ plan_answer (Ok (script_of (universe_planned self.now) (plan_of self.now))) (length lines.old) }
+        ensures lines { lines.new ≡ list_after (Ok (script_of (universe_planned self.now) (plan_of self.now))) lines.old }
+    {
+        let count = self.count();
+        if lines.len() < count {
+            return Err(PlanRefusal::Room);
+        }
+        self.write_whole(lines);
+        Ok(count)
     }
 }
