@@ -21,4 +21,4 @@ file_cases = record { form = refl; size = refl }
 
 pub plan_cases : PlanCases
 unfolding any find_first sum_below lists_below lacks addable next_pair grown closing path_within serves needed_among port_orders step walk build script_of script
-plan_cases = record { harbour = refl; lone = refl; initial = refl }
+plan_cases = record { serving = refl; alone = refl; initial = refl }

@@ -21,11 +21,11 @@ lone = record {
 pub record PlanCases : Type 0 where
   -- the serving dispatcher: lock, roster and dispatcher are built one after the other, and the dispatcher lets the lock go
   -- once it serves
-  pub harbour : planned harbour harbour_goal ≡ Ok (
+  pub serving : planned harbour harbour_goal ≡ Ok (
       Create 0 0 ∷ Change 0 1
       ∷ Create 1 1 ∷ Bind (binding 0 0 1) ∷ Change 1 1
       ∷ Create 2 2 ∷ Bind (binding 0 0 2) ∷ Change 2 1 ∷ Bind (binding 1 1 2) ∷ Change 2 2 ∷ Unbind (binding 0 0 2)
       ∷ [])
   -- a state that alone provides what it requires is out of reach
-  pub lone : planned lone (0x02 ∷ []) ≡ Err OutOfReach
+  pub alone : planned lone (0x02 ∷ []) ≡ Err OutOfReach
   pub initial : planned lone (0x00 ∷ []) ≡ Ok (Create 0 0 ∷ [])

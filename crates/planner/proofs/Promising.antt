@@ -121,6 +121,15 @@ module _ (u : Universe) (bs : List ℕ) (ok : Valid u) where
   out_planned : IsGoal u bs → in_reach ≡ false → planned u bs ≡ Err OutOfReach
   out_planned g out = rw (goal_passes u bs g, out)
 
+  goals_length : length (goal_of bs) ≡ length bs
+  goals_length = length-map bs pair_of_line
+
+  -- no script is long
+  pub planned_short : (os : List Order) → planned u bs ≡ Ok os → length os ≤ 11136
+  planned_short os e =
+      let w = planned_is os e in
+      rw w.2 (size_law u (goal_of bs) ok (omega (arith, goals_length, w.0.few))).1
+
   -- the answer is out of reach exactly if the plan is
   answer_out : (p : Result (List Order) PlanRefusal) (room : ℕ) → plan_answer p room ≡ Err OutOfReach → p ≡ Err OutOfReach
   answer_out (Ok os) room e = by (ltb room (length os)) e
@@ -131,9 +140,6 @@ module _ (u : Universe) (bs : List ℕ) (ok : Valid u) where
       by true e = not_same cc
       by false e = not_same cc
   answer_out (Err e) room is = let z = is in cc
-
-  goals_length : length (goal_of bs) ≡ length bs
-  goals_length = length-map bs pair_of_line
 
   pub refused_exactly : (room : ℕ) (r : Result ℕ PlanRefusal) → r ≡ plan_answer (planned u bs) room → RefusedExactly u bs r
   refused_exactly room r is = (there, back)

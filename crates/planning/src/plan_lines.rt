@@ -24,8 +24,7 @@ fn lines_for(
 ) -> Result<Vec<u32>, Failure<String>>
     ensures { Told vec_items string_bytes result (lines_in room (planned (universe_in universe.now) goal.now)) }
 {
-    // No script has more lines, so a longer list is not needed.
-    let mut lines = vec![in alloc; 0; room.min(MOST_LINES)]?;
+    let mut lines = vec![in alloc; 0; room]?;
     match plan(universe, goal, &mut lines) {
         Ok(count) => {
             lines.truncate(count);
@@ -46,5 +45,6 @@ pub fn plan_lines(
     ensures { Told vec_items string_bytes result (planned_lines goal.now room (tables_read universe.now)) }
 {
     let universe = read_universe(alloc, universe)?;
-    lines_for(alloc, &universe, goal, room)
+    // No script has more lines, so no more places are needed.
+    lines_for(alloc, &universe, goal, room.min(MOST_LINES))
 }
