@@ -1,13 +1,17 @@
 #!/usr/bin/env python3
-"""An implementation of the packed forms and of hosts apart from the product's, and the tables of worked cases.
+"""An implementation of the packed forms, of hosts and of the planner apart from the product's, and the tables of worked cases.
 
 It follows the rules that docs/FORMATS.md and docs/REFUSALS.md state and shares no code with the crates.
 It has the same author as they, so a rule that was misread would be misread in both; so the answers of
-hosts also stand in the table, worked out by hand, and have to be those of the simulation.
+hosts also stand in the table, worked out by hand, and have to be those of the simulation. So do most of the planner's.
+The planner is planning.py, and the universes that are made for it stand in plan_cases.py.
 Run from the repository's root, it writes the inputs to crates/cases/data/ and what the program
-`cases` has to print for them to crates/cases/stdout.
+`cases` has to print for them to crates/cases/stdout, and so for host_cases and plan_cases.
 """
 import os
+
+import plan_cases
+from planning import plan
 
 HARBOUR = bytes.fromhex(
     "1840"
@@ -647,10 +651,102 @@ def layered_table():
     return rows, out
 
 
+# (label, universe, goal, places of the list, the answer worked out by hand)
+WHOLE, SCRIPT = plan_cases.MOST_LINES, "/".join(PLAN)
+BAD, UNREACHED = "25", "02"
+LEAST = dict(UNIVERSES)["least"]
+PLANS = [
+    (label, universe, bytes.fromhex(goal), room, answer)
+    for label, universe, goal, room, answer in [
+        ("the harbour", HARBOUR, "24", WHOLE, SCRIPT),
+        ("the harbour, and a place for each line", HARBOUR, "24", 11, SCRIPT),
+        ("the harbour, and a place more", HARBOUR, "24", 12, SCRIPT),
+        ("the harbour, and a place too few", HARBOUR, "24", 10, "refused 15"),
+        ("the harbour, and no places", HARBOUR, "24", 0, "refused 15"),
+        ("the harbour: the zero bit is set", HARBOUR, "25", WHOLE, "refused 12"),
+        ("the harbour: no such state", HARBOUR, "26", WHOLE, "refused 12"),
+        ("the harbour: no such type", HARBOUR, "34", WHOLE, "refused 12"),
+        ("the harbour: all bits but the zero bit", HARBOUR, "fe", WHOLE, "refused 12"),
+        ("the harbour: all bits", HARBOUR, "ff", WHOLE, "refused 12"),
+        ("the harbour: the zero bit of type 0 and state 0", HARBOUR, "01", WHOLE, "refused 12"),
+        ("the harbour: the last of 16 lines is none", HARBOUR, "24" * 15 + "26", WHOLE, "refused 12"),
+        ("the harbour: a line that is none, and no places", HARBOUR, "26", 0, "refused 12"),
+        ("the harbour: no goal", HARBOUR, "", WHOLE, "refused 11"),
+        ("the harbour: no goal and no places", HARBOUR, "", 0, "refused 11"),
+        ("the harbour: 16 equal lines", HARBOUR, "24" * 16, WHOLE, SCRIPT),
+        ("the harbour: 17 equal lines", HARBOUR, "24" * 17, WHOLE, "refused 11"),
+        ("the harbour: 17 lines that are none", HARBOUR, BAD * 17, WHOLE, "refused 11"),
+        ("the harbour: 17 lines and no places", HARBOUR, "24" * 17, 0, "refused 11"),
+        ("the harbour: 255 lines", HARBOUR, "24" * 255, WHOLE, "refused 11"),
+        ("the harbour: 256 lines", HARBOUR, "24" * 256, WHOLE, "refused 11"),
+        ("the harbour: 257 lines", HARBOUR, "24" * 257, WHOLE, "refused 11"),
+        ("the harbour: the suppliers are in the goal, in another order", HARBOUR, "241202", WHOLE, SCRIPT),
+        ("the harbour: the lock", HARBOUR, "02", WHOLE, "c 0 0/s 0 1"),
+        ("the harbour: the roster", HARBOUR, "12", WHOLE, "c 0 0/s 0 1/c 1 1/b 0 0 1/s 1 1"),
+        ("the harbour: the dispatcher's state 1", HARBOUR, "22", WHOLE, "c 0 0/s 0 1/c 1 2/b 0 0 1/s 1 1"),
+        ("the harbour: two states of the dispatcher", HARBOUR, "2422", WHOLE,
+            "c 0 0/s 0 1/c 1 1/b 0 0 1/s 1 1/c 2 2/b 0 0 2/s 2 1/c 3 2/b 0 0 3/s 3 1/b 1 1 3/s 3 2/u 0 0 3"),
+        ("the harbour: the states 0", HARBOUR, "200010", WHOLE, "c 0 0/c 1 1/c 2 2"),
+        ("the harbour: all pairs", HARBOUR, "00021012202224", WHOLE,
+            "c 0 0/c 1 1/c 2 2/c 3 0/s 3 1/c 4 1/b 0 3 4/s 4 1/c 5 2/b 0 3 5/s 5 1/c 6 2/b 0 3 6/s 6 1/b 1 4 6/s 6 2/u 0 3 6"),
+        ("the lone universe", ALONE, UNREACHED, WHOLE, "refused 14"),
+        ("the lone universe: state 0", ALONE, "00", WHOLE, "c 0 0"),
+        ("the lone universe: state 0, and no places", ALONE, "00", 0, "refused 15"),
+        ("the lone universe: both states", ALONE, "00" + UNREACHED, WHOLE, "refused 14"),
+        ("the lone universe: out of reach, and no places", ALONE, UNREACHED, 0, "refused 14"),
+        ("the lone universe: a line that is none behind one out of reach", ALONE, UNREACHED + "04", WHOLE, "refused 12"),
+        ("the lone universe: a zero bit behind a line out of reach", ALONE, UNREACHED + "01", WHOLE, "refused 12"),
+        ("the lone universe: a line that is none before one out of reach", ALONE, "04" + UNREACHED, WHOLE, "refused 12"),
+        ("the lone universe: 16 lines out of reach", ALONE, UNREACHED * 16, WHOLE, "refused 14"),
+        ("the lone universe: 17 lines out of reach, and no places", ALONE, UNREACHED * 17, 0, "refused 11"),
+        ("the least universe", LEAST, "00", WHOLE, "c 0 0"),
+        ("the least universe: 16 lines, and one place", LEAST, "00" * 16, 1, "c 0 0"),
+        ("the least universe: no such state", LEAST, "02", WHOLE, "refused 12"),
+        ("the least universe: no such type", LEAST, "10", WHOLE, "refused 12"),
+        ("the largest universe: a state with 32 ports", full(), "02", WHOLE,
+            "/".join(["c 0 0", "c 1 0"] + [f"b {p} 0 1" for p in range(32)] + ["s 1 1"])),
+        ("the largest universe: the last state of each type", full(), "0e1e2e3e4e5e6e7e8e9eaebecedeeefe", WHOLE, "545 lines"),
+    ]
+] + plan_cases.CASES
+# A longer script is not printed, but its checksum.
+PRINTED = 40
+
+
+def checksum(data):
+    """FNV-1a of 32 bits."""
+    value = 0x811C9DC5
+    for byte in data:
+        value = (value ^ byte) * 0x01000193 % 2 ** 32
+    return value
+
+
+def plan_text(label, universe, goal, room, by_hand):
+    """What is printed of a case, whose answer has to be that by hand."""
+    number, orders = plan(read_universe(universe), goal, room)
+    answers = [f"refused {number}"] if number else ["/".join(orders), f"{len(orders)} lines"]
+    assert by_hand in answers or by_hand is None, f"{label}: {answers[0]}, by hand {by_hand}"
+    text = f"refused {number}\n" if number else f"{len(orders)} lines\n"
+    if orders and len(orders) > PRINTED:
+        text += f"checksum {checksum(script(*map(encode, orders))):08x}\n"
+    elif orders:
+        text += "\n".join(orders) + "\n"
+    return text + "rest unchanged\n"
+
+
+def plans_table():
+    """The rows of the data file (universe, goal, places), and what is printed of them."""
+    rows, out = "", "plans\n"
+    for label, universe, goal, room, by_hand in PLANS:
+        rows += f"{label} = {universe.hex()} {goal.hex() or '-'} {room}\n"
+        out += f"{label}:\n{plan_text(label, universe, goal, room, by_hand)}"
+    return rows, out
+
+
 def main():
     crates = os.path.join(os.path.dirname(os.path.abspath(__file__)), "..", "crates")
     here = os.path.join(crates, "cases")
     hosts = os.path.join(crates, "host_cases")
+    plans = os.path.join(crates, "plan_cases")
     host_rows, host_out = hosts_table()
     layered_rows, layered_out = layered_table()
     out = ""
@@ -671,6 +767,12 @@ def main():
         f.write(out)
     with open(os.path.join(hosts, "stdout"), "w") as f:
         f.write(host_out + layered_out)
+    plan_rows, plan_out = plans_table()
+    os.makedirs(os.path.join(plans, "data"), exist_ok=True)
+    with open(os.path.join(plans, "data", "plans.txt"), "w") as f:
+        f.write(plan_rows)
+    with open(os.path.join(plans, "stdout"), "w") as f:
+        f.write(plan_out)
 
 
 if __name__ == "__main__":
