@@ -57,7 +57,9 @@ class Files:
 
     def run(self, program, room):
         words = [] if room is None else ["--room", str(room)]
-        ended = subprocess.run([program, "plan", *self.paths, *words], capture_output=True, text=True, errors="replace")
+        universe, goal = self.paths
+        command = [program, "plan", universe, "@" + goal, *words]
+        ended = subprocess.run(command, capture_output=True, text=True, errors="replace")
         return ended.stdout + (f"on standard error: {ended.stderr}" if ended.stderr else ""), ended.returncode
 
     def remove(self):
@@ -80,7 +82,7 @@ def compare(program, count, seed, room):
         differs = difference(wanted, files.run(program, places))
         if differs:
             option = "" if places is None else f" --room {places}"
-            print(f"case {number} of seed {seed}: {differs}\n{program} plan {' '.join(files.paths)}{option}")
+            print(f"case {number} of seed {seed}: {differs}\n{program} plan {' @'.join(files.paths)}{option}")
             return False
         answer = wanted[0].strip() if wanted[1] else "scripts"
         answers[answer] = answers.get(answer, 0) + 1
