@@ -1,6 +1,6 @@
 -- A search among the kept places is the search among the listed pairs. Assumes nothing.
-use Rattle.std.proofs.Common.{List, [], ◌∷◌, ◌≡◌, ℕ, ◌+◌, ◌<◌, Bool, true, false, cond, ltb, not, length, map, take, Some, None, Option, refl, sym, ap, ◌∙◌, subst, inl, inr, arith}
-use Rattle.std.specs.List.{position, position_or_len, prefix_len}
+use Rattle.std.proofs.Common.{List, [], ◌∷◌, ◌≡◌, ℕ, ◌+◌, Bool, cond, not, length, map, take, Option, refl, sym, ap, ◌∙◌, inl, inr, arith}
+use Rattle.std.specs.List.{position, position_or_len}
 use Rattle.std.specs.Option.{unwrap_or}
 use Rattle.std.proofs.lemmas.Bool.{cases_lt, le-ltb, lt-ltb}
 use Rattle.std.proofs.lemmas.List.Sums.{prefix_len-le-length}
@@ -23,8 +23,8 @@ or_length f xs =
     elim (cases_lt (position_or_len f xs) (length xs)) [
       | inl low ↦ rw (lt-ltb (position_or_len f xs) (length xs) low)
       | inr past ↦
-        let most = prefix_len-le-length (λ x. not (f x)) xs in
-        rw (le-ltb (position_or_len f xs) (length xs) past) (omega arith)
+          let most = prefix_len-le-length (λ x. not (f x)) xs in
+          rw (le-ltb (position_or_len f xs) (length xs) past) (omega arith)
     ]
 
 module _ (t : Tables) (l : List Pair) (places : List Listed) (len : ℕ) (p : Places t l places len) where

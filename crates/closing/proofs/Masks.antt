@@ -1,10 +1,10 @@
 -- Packed sets by their bits: unions, single numbers, and one set within another. Assumes nothing.
-use Rattle.std.proofs.Common.{◌≡◌, ℕ, zero, suc, ◌+◌, ◌-◌, ◌*◌, ◌/◌, ◌%◌, ◌^◌, ◌<◌, ◌≤◌, min, max, Bool, true, false, not, ◌&&◌, ◌||◌, eqb, ◌⊎◌, refl, sym, ap, ◌∙◌, inl, inr, arith}
+use Rattle.std.proofs.Common.{◌≡◌, ℕ, zero, suc, ◌-◌, ◌^◌, ◌<◌, min, max, Bool, true, false, not, ◌&&◌, ◌||◌, eqb, refl, sym, ap, ◌∙◌, inl, inr, arith}
 use lib.Bits.{bit_and, bit_or}
 use Rattle.std.proofs.lemmas.Nat.{and_le_l}
 use Rattle.std.specs.Int.{bit_at}
-use Rattle.std.proofs.lemmas.Bool.{and_parts, and_from, both_ways, cases_Bool, cases_eq, cases_lt, eq-eqb, eqb-true, le-ltb, lt-ltb, ne_eqb, not-true}
-use Rattle.std.proofs.lemmas.Nat.Bits.{bit_at-lt, bit_at-pow_other, bit_at-pow_same, bit_at-zero, bit_at_and, bit_at_or, bit_at_above, same_from_bits_below}
+use Rattle.std.proofs.lemmas.Bool.{and_parts, and_from, both_ways, cases_Bool, cases_eq, cases_lt, eq-eqb, eqb-true, lt-ltb, ne_eqb, not-true}
+use Rattle.std.proofs.lemmas.Nat.Bits.{bit_at-lt, bit_at-pow_other, bit_at-pow_same, bit_at-zero, bit_at_and, bit_at_or, same_from_bits_below}
 use Rattle.model.specs.Search.{any}
 use Rattle.model.proofs.Searches.{any_found, any_some}
 use Rattle.universe.specs.Sets.{has}
@@ -46,9 +46,9 @@ module _ (w : ℕ) where
       elim (cases_eq p q) [
         | inl e ↦ rw (e, has_bit w (2 ^ (w - 1 - q)) q in_range, bit_at-pow_same (w - 1 - q), eq-eqb q q refl)
         | inr ne ↦ rw (ne_eqb p q ne) (elim (cases_lt p w) [
-            | inl l ↦ rw (has_bit w (2 ^ (w - 1 - q)) p l, bit_at-pow_other (w - 1 - q) (w - 1 - p) (λ e. ne (omega arith)))
-            | inr g ↦ has_past w (2 ^ (w - 1 - q)) p g
-          ])
+          | inl l ↦ rw (has_bit w (2 ^ (w - 1 - q)) p l, bit_at-pow_other (w - 1 - q) (w - 1 - p) (λ e. ne (omega arith)))
+          | inr g ↦ has_past w (2 ^ (w - 1 - q)) p g
+        ])
       ]
 
   -- what the one set has, the other has
@@ -61,6 +61,7 @@ module _ (w : ℕ) where
     where
       back : w - 1 - (w - 1 - i) ≡ i
       back = omega arith
+
       by : (x : ℕ) → bit_at a i ≡ x → x < 2 → min (bit_at a i) (bit_at b i) ≡ bit_at a i
       by zero e k = rw e (omega arith)
       by (suc zero) e k =
@@ -88,13 +89,16 @@ unfolding exceeds
 exceeds_masked a b small =
     elim (cases_Bool (any (λ p. has 32 a p && not (has 32 b p)) 32)) [
       | inl some ↦
-        let s = any_some (λ p. has 32 a p && not (has 32 b p)) 32 some in
-        let w = and_parts (has 32 a s.0) (not (has 32 b s.0)) s.2 in
-        rw (some, ne_eqb (bit_and a b) a (λ e. both_ways (has 32 b s.0) (not-true (has 32 b s.0) w.1) (and_within 32 a b e s.0 w.0)))
+          let s = any_some (λ p. has 32 a p && not (has 32 b p)) 32 some in
+          let w = and_parts (has 32 a s.0) (not (has 32 b s.0)) s.2 in
+          rw (some, ne_eqb (bit_and a b) a (λ e. both_ways (has 32 b s.0) (not-true (has 32 b s.0) w.1) (and_within 32 a b e s.0 w.0)))
       | inr none ↦
-        rw (none, eq-eqb (bit_and a b) a (within_and 32 a b small (λ p in_a.
-          by (has 32 b p) refl (λ out. both_ways (any (λ p. has 32 a p && not (has 32 b p)) 32) none
-            (any_found _ p 32 (has_below 32 a p in_a) (and_from (has 32 a p) (not (has 32 b p)) in_a (ap not out)))))))
+          rw (
+            none,
+            eq-eqb (bit_and a b) a (within_and 32 a b small (λ p in_a.
+                by (has 32 b p) refl (λ out. both_ways (any (λ p. has 32 a p && not (has 32 b p)) 32) none
+                (any_found _ p 32 (has_below 32 a p in_a) (and_from (has 32 a p) (not (has 32 b p)) in_a (ap not out)))))),
+          )
     ]
   where
     by : (b : Bool) {c : Bool} → c ≡ b → (c ≡ false → ⊥) → c ≡ true

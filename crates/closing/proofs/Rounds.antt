@@ -1,5 +1,5 @@
 -- The turns of the closing order, as the code takes them. Assumes nothing.
-use Rattle.std.proofs.Common.{◌≡◌, ℕ, zero, suc, ◌+◌, ◌<◌, ◌≤◌, List, [], ◌∷◌, ◌++◌, length, Some, None, Option, refl, sym, ap, ◌∙◌, subst, add-one, arith}
+use Rattle.std.proofs.Common.{◌≡◌, ℕ, zero, suc, ◌+◌, ◌<◌, ◌≤◌, List, [], ◌∷◌, ◌++◌, length, Some, None, refl, sym, ap, ◌∙◌, subst, add-one, arith}
 use Rattle.model.specs.declared.pair.Pair.{Pair}
 use Rattle.model.specs.Config.{pair}
 use Rattle.model.specs.Universe.{Universe, IsPair, Valid}

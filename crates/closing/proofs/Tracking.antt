@@ -1,5 +1,5 @@
 -- What the sets beside a list of pairs tell, as the list grows. Assumes nothing.
-use Rattle.std.proofs.Common.{◌≡◌, ℕ, zero, suc, ◌+◌, ◌-◌, ◌/◌, ◌^◌, ◌<◌, ◌≤◌, Bool, true, false, not, ◌&&◌, ◌||◌, eqb, List, [], ◌∷◌, ◌++◌, length, get_or, set, take, map, replicate, refl, sym, ap, ◌∙◌, inl, inr, arith}
+use Rattle.std.proofs.Common.{◌≡◌, ℕ, zero, suc, ◌+◌, ◌-◌, ◌/◌, ◌^◌, ◌<◌, ◌≤◌, Bool, true, false, not, ◌&&◌, ◌||◌, eqb, List, [], ◌∷◌, ◌++◌, length, get_or, set, map, replicate, refl, sym, ap, ◌∙◌, inl, inr, arith}
 use mathlib.Core.Bool.{or-false}
 use lib.Bits.{bit_or}
 use Rattle.std.specs.List.{list_any}
@@ -91,7 +91,7 @@ module _ (t : Tables) (l : List Pair) (h : Pair) where
 
     pub led_more : has 8 (get_or marks k 0) q ≡ list_any (leads (universe_of t) (pair k q)) l →
         has 8 (get_or (set marks h.kind (bit_or (get_or marks h.kind 0) (entry_at t h.kind h.state).successors)) k 0) q ≡
-          list_any (leads (universe_of t) (pair k q)) (l ++ (h ∷ []))
+        list_any (leads (universe_of t) (pair k q)) (l ++ (h ∷ []))
     led_more e =
         rw (any_pushed l h (leads (universe_of t) (pair k q)), ← e)
         (elim (cases_eq k h.kind) [
@@ -102,8 +102,8 @@ module _ (t : Tables) (l : List Pair) (h : Pair) where
 pub sets_push : (t : Tables) (l : List Pair) (h : Pair) (provided : ℕ) (marks led : List ℕ) → h.kind < 16 → h.state < 8 →
     Sets t l provided marks led →
     Sets t (l ++ (h ∷ [])) (bit_or provided (entry_at t h.kind h.state).provided)
-      (set marks h.kind (bit_or (get_or marks h.kind 0) (128 / 2 ^ h.state)))
-      (set led h.kind (bit_or (get_or led h.kind 0) (entry_at t h.kind h.state).successors))
+    (set marks h.kind (bit_or (get_or marks h.kind 0) (128 / 2 ^ h.state)))
+    (set led h.kind (bit_or (get_or led h.kind 0) (entry_at t h.kind h.state).successors))
 sets_push t l h provided marks led low small s =
     record {
       marks = length-set marks h.kind _ ∙ s.marks;
@@ -139,10 +139,10 @@ places_push t places len h at low is p =
       room = length-set places len at ∙ p.room;
       within = omega arith;
       kept =
-        take_more_set places len at (omega (arith, p.room))
-        ∙ ap (λ xs. xs ++ (at ∷ [])) p.kept
-        ∙ ap (λ a. map (kept_of t) (pairs_in places len) ++ (a ∷ [])) is
-        ∙ sym (map-append (kept_of t) (pairs_in places len) (h ∷ []));
+          take_more_set places len at (omega (arith, p.room))
+          ∙ ap (λ xs. xs ++ (at ∷ [])) p.kept
+          ∙ ap (λ a. map (kept_of t) (pairs_in places len) ++ (a ∷ [])) is
+          ∙ sym (map-append (kept_of t) (pairs_in places len) (h ∷ []));
     }
 
 pub lists_none : (t : Tables) (nothing : Listed) → Lists t [] (record { places = replicate 128 nothing; len = 0; provided = 0; listed = replicate 16 0; led = replicate 16 0 })

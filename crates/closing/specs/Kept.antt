@@ -1,7 +1,5 @@
 -- The kept closing order.
 use Rattle.std.specs.Prelude.{ℕ, List}
-use Rattle.model.specs.declared.pair.Pair.{Pair}
-use Rattle.model.specs.Universe.{Universe}
 use Rattle.universe.specs.declared.tables.Tables.{Tables}
 use Rattle.universe.specs.Tables.{universe_of}
 use Rattle.plans.specs.Closing.{closing}

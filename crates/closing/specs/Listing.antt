@@ -1,12 +1,12 @@
 -- What is kept beside a list of pairs while the closing order is built.
-use Rattle.std.specs.Prelude.{◌≡◌, ℕ, ◌<◌, ◌≤◌, Bool, not, ◌&&◌, List, length, map, take, slice_index}
+use Rattle.std.specs.Prelude.{◌≡◌, ℕ, Bool, not, ◌&&◌, List, length, map, take, slice_index}
 use Rattle.std.specs.List.{list_any}
 use Rattle.model.specs.declared.pair.Pair.{Pair}
 use Rattle.model.specs.Config.{pair}
 use Rattle.model.specs.Search.{any}
 use Rattle.universe.specs.declared.tables.Tables.{Tables}
 use Rattle.universe.specs.Sets.{has}
-use Rattle.universe.specs.Tables.{entry_at, universe_of}
+use Rattle.universe.specs.Tables.{universe_of}
 use Rattle.plans.specs.Lists.{listed}
 use Rattle.plans.specs.Closing.{leads, provides}
 use Rattle.closing.specs.declared.order.Listed.{Listed}

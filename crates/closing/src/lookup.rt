@@ -35,7 +35,9 @@ fn place_of(places: &[Listed], pair: Pair) -> Option<usize>
 fn place_leading(universe: &Universe, places: &[Listed], pair: Pair) -> Option<usize>
     ensures { result ≡ position (λ e. leads (universe_in universe.now) pair e.pair) places.now }
 {
-    places.iter().position(|listed| leads(universe, listed.pair, pair))
+    places
+        .iter()
+        .position(|listed| leads(universe, listed.pair, pair))
 }
 
 // The first place whose pair provides the port.

@@ -1,5 +1,5 @@
 -- Worked cases of planning.
-use Rattle.std.specs.Prelude.{◌≡◌, ℕ, Bool, cond, List, [], ◌∷◌, Ok, Err, ◌==◌}
+use Rattle.std.specs.Prelude.{◌≡◌, cond, [], ◌∷◌, Ok, Err, ◌==◌}
 use Rattle.model.specs.declared.order.Order.TheVariants.{Create, Bind, Change, Unbind}
 use Rattle.model.specs.Universe.{Universe}
 use Rattle.plans.specs.Plan.{binding}

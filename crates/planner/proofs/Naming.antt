@@ -1,5 +1,5 @@
 -- The pairs that the lines of a goal name. Assumes nothing.
-use Rattle.std.proofs.Common.{List, [], ◌∷◌, ◌≡◌, ◌<◌, ℕ, Bool, true, false, ◌||◌, length, ltb, refl, sym, ap, inl, inr, arith}
+use Rattle.std.proofs.Common.{List, [], ◌∷◌, ◌≡◌, ℕ, ◌||◌, length, ltb, refl, sym, ap, inl, inr, arith}
 use Rattle.std.specs.List.{list_all, list_any}
 use Rattle.std.proofs.lemmas.Bool.{cases_lt, le-ltb, lt-ltb}
 use Rattle.std.proofs.lemmas.List.Folds.{list_all-map}

@@ -1,5 +1,5 @@
 -- Lines in a list, some behind others. Assumes nothing.
-use Rattle.std.proofs.Common.{◌≡◌, ℕ, zero, ◌+◌, ◌^◌, ◌-◌, ◌≤◌, List, [], ◌∷◌, ◌++◌, length, map, set, take, drop, suc, refl, sym, ap, ◌∙◌, add-one, add-zero, arith}
+use Rattle.std.proofs.Common.{◌≡◌, ℕ, ◌+◌, ◌^◌, ◌-◌, ◌≤◌, List, [], ◌∷◌, ◌++◌, length, map, set, take, drop, suc, refl, sym, ap, ◌∙◌, add-one, add-zero, arith}
 use Rattle.std.proofs.lemmas.List.{append_assoc, drop-set-lt, length-set, set_past, take-append-drop, take_more_set}
 use Rattle.model.specs.declared.order.Order.{Order}
 use Rattle.plans.specs.Lists.{lists_below}

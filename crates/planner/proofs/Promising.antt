@@ -1,17 +1,16 @@
 -- What plan answers, in the words of runs. Assumes nothing.
-use Rattle.std.proofs.Common.{List, [], ◌∷◌, ◌++◌, ◌≡◌, ◌≢◌, ◌<◌, ◌≤◌, ◌^◌, ◌%◌, ◌↔◌, ℕ, zero, suc, Bool, true, false, not, ◌||◌, cond, drop, length, map, take, ltb, eqb, Ok, Err, Result, refl, sym, ap, ◌∙◌, subst, inl, inr, arith}
+use Rattle.std.proofs.Common.{List, [], ◌∷◌, ◌++◌, ◌≡◌, ◌<◌, ◌≤◌, ◌^◌, ◌%◌, ℕ, suc, Bool, true, false, not, ◌||◌, cond, drop, length, map, take, ltb, eqb, Ok, Err, Result, refl, sym, ap, ◌∙◌, arith}
 use mathlib.Core.Bool.{false≢true}
 use Rattle.std.specs.List.{All, list_all}
 use Rattle.std.specs.Result.{IsOk}
-use Rattle.std.proofs.lemmas.Bool.{and_from, and_parts, both_ways, cases_Bool, cases_lt, eq-eqb, eqb-true, le-ltb, lt-ltb, ltb-false, ltb-true, not-false}
+use Rattle.std.proofs.lemmas.Bool.{and_from, and_parts, both_ways, eq-eqb, eqb-true, le-ltb, lt-ltb, ltb-false, ltb-true, not-false}
 use Rattle.std.proofs.lemmas.List.Sums.{AllPass-from_list_all, list_all-from_AllPass}
 use Rattle.std.proofs.lemmas.List.{length-map}
 use Rattle.std.proofs.Math.Seq.{take-append_seam}
 use Rattle.model.proofs.Searches.{refuted}
-use Rattle.model.specs.declared.pair.Pair.{Pair}
 use Rattle.model.specs.declared.order.Order.{Order}
 use Rattle.model.specs.Universe.{Universe, IsPair, Valid}
-use Rattle.lines.specs.Line.{decoded, encoded, fields_of_order, fits, line_of_fields}
+use Rattle.lines.specs.Line.{decoded, encoded, fields_of_order, fits}
 use Rattle.lines.proofs.Coding.{round_trip}
 use Rattle.plans.specs.Lists.{listed}
 use Rattle.plans.specs.Closing.{closing}
@@ -136,6 +135,7 @@ module _ (u : Universe) (bs : List ℕ) (ok : Valid u) where
     where
       done : Result (List Order) PlanRefusal
       done = Ok os
+
       by : (b : Bool) → refused_if b Room (Ok (length os)) ≡ Err OutOfReach → done ≡ Err OutOfReach
       by true e = not_same cc
       by false e = not_same cc
@@ -148,6 +148,7 @@ module _ (u : Universe) (bs : List ℕ) (ok : Valid u) where
       there e =
           let out = planned_out (answer_out (planned u bs) room (sym is ∙ e)) in
           (out.0, λ os reaches. both_ways in_reach out.1 ((reach_law u (goal_of bs) ok).1 os reaches))
+
       back : IsGoal u bs × ((os : List Order) → Reaches u os (goal_of bs) → ⊥) → r ≡ Err OutOfReach
       back (g, none) =
           is ∙ ap (λ p. plan_answer p room)

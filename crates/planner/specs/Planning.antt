@@ -1,5 +1,5 @@
 -- What plan answers, what the list holds afterwards, and what that means for runs.
-use Rattle.std.specs.Prelude.{◌≡◌, ℕ, ◌<◌, ◌≤◌, ◌%◌, ◌↔◌, cond, not, All, List, ◌++◌, drop, length, map, take, Ok, Err, Result, nat_lt}
+use Rattle.std.specs.Prelude.{◌≡◌, ℕ, ◌≤◌, ◌%◌, ◌↔◌, cond, not, All, List, ◌++◌, drop, length, map, take, Ok, Err, Result, nat_lt}
 use Rattle.std.specs.List.{list_all}
 use Rattle.model.specs.declared.pair.Pair.{Pair}
 use Rattle.model.specs.declared.order.Order.{Order}

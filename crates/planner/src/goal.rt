@@ -72,5 +72,6 @@ fn is_listed(order: &ClosingOrder, pair: Pair) -> bool
 pub(crate) fn is_in_reach(order: &ClosingOrder, goal: &[u8]) -> bool
     ensures { result ≡ list_all (listed (pairs_in_order order.now)) (goal_of goal.now) }
 {
-    goal.iter().all(|line| is_listed(order, pair_of_line(*line)))
+    goal.iter()
+        .all(|line| is_listed(order, pair_of_line(*line)))
 }

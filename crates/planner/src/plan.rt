@@ -16,11 +16,7 @@ use universe::held::Universe;
 // Writes the script for the goal into the list, and answers how many lines it has; refused where
 // the list has fewer places.
 #[tactic(auto, using(crate::proofs::Promising::script_short), unfolding(plans::specs::Script::script))]
-fn write_script(
-    order: &ClosingOrder,
-    goal: &[u8],
-    lines: &mut [u32],
-) -> Result<usize, PlanRefusal>
+fn write_script(order: &ClosingOrder, goal: &[u8], lines: &mut [u32]) -> Result<usize, PlanRefusal>
     requires { length goal.now ≤ 16 }
     ensures answer { result ≡ plan_answer (Ok (script (universe_in_order order.now) (goal_of goal.now))) (length lines.old) }
     ensures lines { lines.new ≡ list_after (Ok (script (universe_in_order order.now) (goal_of goal.now))) lines.old }
@@ -31,11 +27,7 @@ fn write_script(
 }
 
 // Writes the script for the goal's lines into the list, and answers how many lines it has; or why not.
-fn write_plan(
-    universe: &Universe,
-    goal: &[u8],
-    lines: &mut [u32],
-) -> Result<usize, PlanRefusal>
+fn write_plan(universe: &Universe, goal: &[u8], lines: &mut [u32]) -> Result<usize, PlanRefusal>
     ensures answer { result ≡ plan_answer (planned (universe_in universe.now) goal.now) (length lines.old) }
     ensures lines { lines.new ≡ list_after (planned (universe_in universe.now) goal.now) lines.old }
 {
@@ -50,11 +42,7 @@ fn write_plan(
 // Plans the goal, a line in each byte, into the list: writes the script's lines, leaves what is behind them, and answers how
 // many they are. On a refusal the list stays as it was. A goal is refused as out of reach exactly if no run reaches it; what
 // is written tells a run that does.
-pub fn plan(
-    universe: &Universe,
-    goal: &[u8],
-    lines: &mut [u32],
-) -> Result<usize, PlanRefusal>
+pub fn plan(universe: &Universe, goal: &[u8], lines: &mut [u32]) -> Result<usize, PlanRefusal>
     ensures answer { result ≡ plan_answer (planned (universe_in universe.now) goal.now) (length lines.old) }
     ensures lines { lines.new ≡ list_after (planned (universe_in universe.now) goal.now) lines.old }
     ensures refused { RefusedExactly (universe_in universe.now) goal.now result }

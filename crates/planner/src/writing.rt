@@ -12,8 +12,8 @@ ghost use Rattle.closing.specs.Order.{pairs_in_order};
 ghost use Rattle.planner.specs.Writing.{AllListed, Planned, Wrote, line_of, linked, links, plan_on};
 ghost use Rattle.planner.specs.Planning.{list_after, plan_answer};
 
-use crate::refusal::PlanRefusal;
 use crate::path::{pair_at, path_of};
+use crate::refusal::PlanRefusal;
 use closing::order::ClosingOrder;
 use lines::encode;
 use model::binding::Binding;

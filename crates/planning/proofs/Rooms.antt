@@ -1,5 +1,5 @@
 -- A list of more places than any script has lines gives no other answer. Assumes nothing.
-use Rattle.std.proofs.Common.{◌≡◌, ℕ, ◌<◌, ◌≤◌, min, Bool, true, false, List, length, map, ltb, Ok, Err, Result, refl, sym, ap, ◌∙◌, inl, inr, arith}
+use Rattle.std.proofs.Common.{◌≡◌, ℕ, ◌≤◌, min, List, length, ltb, Ok, Err, Result, refl, ap, ◌∙◌, inl, inr, arith}
 use Rattle.std.proofs.lemmas.Bool.{cases_lt, le-ltb, lt-ltb}
 use Rattle.model.specs.declared.order.Order.{Order}
 use Rattle.model.specs.Universe.{Universe, Valid}
@@ -10,11 +10,9 @@ use Rattle.universe.specs.Reading.{Read}
 use Rattle.universe.specs.Tables.{universe_of}
 use Rattle.universe.proofs.Sounds.{sound}
 use Rattle.planner.specs.declared.refusal.PlanRefusal.{PlanRefusal}
-use Rattle.planner.specs.declared.refusal.PlanRefusal.TheVariants.{Room}
-use Rattle.planner.specs.Planning.{plan_answer, planned}
-use Rattle.planner.specs.Refusals.{plan_number}
+use Rattle.planner.specs.Planning.{planned}
 use Rattle.planner.proofs.Promising.{planned_short}
-use Rattle.console.specs.Refused.{refusal_told, refused_line_of}
+use Rattle.console.specs.Refused.{refusal_told}
 use Rattle.planning.specs.Planning.{lines_in, planned_lines}
 
 -- the test of the room comes out alike

@@ -1,18 +1,17 @@
 -- The laws of the closing order and of scripts. Assumes nothing.
-use Rattle.std.proofs.Common.{List, [], ◌∷◌, ◌++◌, ◌≡◌, ℕ, ◌+◌, ◌*◌, ◌<◌, ◌≤◌, ◌↔◌, true, false, length, ◌⊎◌, Some, None, Option, refl, sym, ap, ◌∙◌, subst, inl, inr, arith}
+use Rattle.std.proofs.Common.{List, [], ◌∷◌, ◌++◌, ◌≡◌, ℕ, ◌<◌, ◌≤◌, true, length, refl, ap, ◌∙◌, inl, inr, arith}
 use mathlib.Core.Bool.{false≢true}
-use Rattle.std.specs.List.{All, list_all, list_any}
+use Rattle.std.specs.List.{All}
 use Rattle.model.specs.declared.pair.Pair.{Pair}
 use Rattle.model.specs.declared.order.Order.{Order}
 use Rattle.model.specs.Config.{empty}
 use Rattle.model.specs.Counts.{bindings}
 use Rattle.model.specs.Runs.{Run, after}
 use Rattle.model.specs.Universe.{Universe, Valid}
-use Rattle.plans.specs.Lists.{listed, pair_at, rank_of}
-use Rattle.plans.specs.Closing.{closing, supplier_rank}
-use Rattle.plans.specs.Needs.{needed}
-use Rattle.plans.specs.Plan.{Works, script_of}
-use Rattle.plans.specs.Goals.{Attained, Met, Reaches}
+use Rattle.plans.specs.Lists.{listed}
+use Rattle.plans.specs.Closing.{closing}
+use Rattle.plans.specs.Plan.{Works}
+use Rattle.plans.specs.Goals.{Met, Reaches}
 use Rattle.plans.specs.Script.{needed_pairs, plan_for, script}
 use Rattle.plans.specs.Laws.{Attainable, ClosingLaw, EndLaw, InReach, LinesLaw, LowerLaw, NeededLaw, ReachLaw, SizeLaw, deployed}
 use Rattle.plans.proofs.Closed.{Closed}
@@ -51,7 +50,7 @@ module _ (u : Universe) (goal : List Pair) (ok : Valid u) where
   end =
       script_ends u _ ok works
       ∙ config_same _ _ (plan_instances u (closing u) closed (needed_pairs u goal) sufficient)
-        (plan_bindings u (closing u) closed (needed_pairs u goal) sufficient)
+      (plan_bindings u (closing u) closed (needed_pairs u goal) sufficient)
 
   pub meets : InReach u goal → Met goal (after empty (script u goal))
   meets reach =
@@ -61,7 +60,7 @@ module _ (u : Universe) (goal : List Pair) (ok : Valid u) where
   pub lower : (os ps : List Order) → script u goal ≡ os ++ ps → (p x y : ℕ) → (after empty os).bound p x y ≡ true → x < y
   unfolding script
   lower os ps e p x y b =
-      elim (script_lower u _ ok works os ps e p x y b) [ | inl stood ↦ absurd (false≢true stood) | inr low ↦ low ]
+      elim (script_lower u _ ok works os ps e p x y b) [ inl stood ↦ absurd (false≢true stood) | inr low ↦ low ]
 
   pub only : (os : List Order) → Reaches u os goal → InReach u goal
   only os (run, met) =
@@ -75,7 +74,7 @@ module _ (u : Universe) (goal : List Pair) (ok : Valid u) where
     unfolding script
     length_most =
         let each = script_length u (plan_for u (closing u) (needed_pairs u goal)) ok
-              (λ z _ low. path_short u (closing u) closed _ (sufficient.sub _ (listed_at (needed_pairs u goal) z (omega arith))) ok) in
+        (λ z _ low. path_short u (closing u) closed _ (sufficient.sub _ (listed_at (needed_pairs u goal) z (omega arith))) ok) in
         omega (arith, instances)
 
     bindings_most : (os ps : List Order) → script u goal ≡ os ++ ps → (m n : ℕ) → bindings m n (after empty os) ≤ 1536

@@ -1,6 +1,6 @@
 -- What searches in lists of pairs tell: which pairs are listed, at which rank, and which is the first that passes. Assumes
 -- nothing.
-use Rattle.std.proofs.Common.{List, [], ◌∷◌, ◌++◌, ◌≡◌, ℕ, zero, suc, ◌+◌, ◌<◌, ◌≤◌, Bool, true, false, ◌&&◌, ◌||◌, eqb, length, get_or, ◌⊎◌, refl, sym, ap, ◌∙◌, subst, inl, inr, arith}
+use Rattle.std.proofs.Common.{List, [], ◌∷◌, ◌++◌, ◌≡◌, ℕ, zero, suc, ◌+◌, ◌<◌, ◌≤◌, Bool, true, false, ◌||◌, eqb, length, ◌⊎◌, refl, sym, ap, ◌∙◌, inl, inr, arith}
 use mathlib.Core.Bool.{false≢true, or-false}
 use Rattle.std.specs.List.{list_any, position_or_len}
 use Rattle.std.proofs.lemmas.Bool.{and_parts, both_ways, cases_lt, eq-eqb, eqb-true, or_cases, or_left, or_right}
@@ -39,7 +39,7 @@ module _ (f : Pair → Bool) where
       by : (list_any f xs ≡ true → position_or_len f xs < length xs) → (b : Bool) → f x ≡ b → position_or_len f (x ∷ xs) < length (x ∷ xs)
       by rest true there = rw there (omega arith)
       by rest false out =
-          let low = rest (elim (or_cases (f x) (list_any f xs) e) [ | inl there ↦ absurd (both_ways (f x) out there) | inr found ↦ found ]) in
+          let low = rest (elim (or_cases (f x) (list_any f xs) e) [ inl there ↦ absurd (both_ways (f x) out there) | inr found ↦ found ]) in
           rw out (omega arith)
 
   pub any_at : (l : List Pair) (k : ℕ) → k < length l → f (pair_at l k) ≡ true → list_any f l ≡ true

@@ -1,6 +1,6 @@
 -- The laws of the closing order and of scripts, in the words of runs.
-use Rattle.std.specs.Prelude.{◌≡◌, ℕ, ◌+◌, ◌<◌, ◌≤◌, ◌&&◌, true, ◌↔◌, List, [], ◌++◌, length, All, Some, ◌==◌, slice_get, IsOk}
-use Rattle.std.specs.List.{list_any, list_all}
+use Rattle.std.specs.Prelude.{◌≡◌, ℕ, ◌<◌, ◌≤◌, ◌&&◌, true, ◌↔◌, List, ◌++◌, length, All, ◌==◌, slice_get, IsOk}
+use Rattle.std.specs.List.{list_all}
 use Rattle.model.specs.declared.pair.Pair.{Pair}
 use Rattle.model.specs.declared.order.Order.{Order}
 use Rattle.model.specs.Universe.{Universe, Valid}

@@ -1,5 +1,5 @@
 -- Plans, and the script of a plan.
-use Rattle.std.specs.Prelude.{◌≡◌, ℕ, zero, suc, ◌+◌, ◌-◌, ◌<◌, ◌≤◌, Bool, true, false, cond, not, ◌&&◌, List, [], ◌∷◌, ◌++◌, Some, None, Option, nat_lt}
+use Rattle.std.specs.Prelude.{◌≡◌, ℕ, ◌+◌, ◌<◌, ◌≤◌, Bool, true, cond, not, ◌&&◌, List, [], ◌∷◌, ◌++◌, Some, None, Option, nat_lt}
 use Rattle.model.specs.declared.binding.Binding.{Binding}
 use Rattle.model.specs.declared.pair.Pair.{Pair}
 use Rattle.model.specs.declared.order.Order.{Order}

@@ -1,5 +1,5 @@
 -- The plan for a goal, and its script.
-use Rattle.std.specs.Prelude.{ℕ, List, length}
+use Rattle.std.specs.Prelude.{List, length}
 use Rattle.model.specs.declared.pair.Pair.{Pair}
 use Rattle.model.specs.declared.order.Order.{Order}
 use Rattle.model.specs.Config.{empty}

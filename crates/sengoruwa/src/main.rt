@@ -251,8 +251,9 @@ fn plan<'a>(rt: &HostRuntime, words: &'a [String]) -> Result<(), Stop<'a>> {
     let lines = plan_lines(rt.alloc(), &universe, &goal, room)?;
     if let Some(path) = given.out.and_then(|place| words.get(place)) {
         let bytes = script_bytes(rt.alloc(), &lines)?;
-        fs::write(rt, path.as_str(), bytes.as_slice())
-            .map_err(|_| Misuse::Unwritable(path.as_str()))?;
+        fs::write(rt, path.as_str(), bytes.as_slice()).map_err(|_| Misuse::Unwritable(
+            path.as_str(),
+        ))?;
     }
     Ok(rt.print(lines_report(rt.alloc(), &lines)?)?)
 }

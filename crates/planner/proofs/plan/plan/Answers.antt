@@ -1,8 +1,6 @@
-use Rattle.std.proofs.Common.{ap, ◌∙◌}
 use Rattle.universe.specs.Held.{universe_in}
 use Rattle.universe.proofs.Sounds.{sound}
 use Rattle.planner.proofs.Promising.{refused_exactly, writes_run}
-use Rattle.planner.specs.Planning.{WritesRun}
 use Rattle.planner.proofs.plan.plan.Goals as goal
 
 pub returns-clause-refused : goal.returns-clause-refused

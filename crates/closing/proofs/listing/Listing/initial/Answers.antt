@@ -1,5 +1,4 @@
 use Rattle.std.proofs.Common.{◌≡◌, arith}
-use Rattle.universe.specs.Held.{universe_in}
 use Rattle.universe.proofs.Sounds.{sound}
 use Rattle.closing.proofs.Tracking.{lists_tracks}
 use Rattle.closing.proofs.Rounds.{initial_begins, initial_more, initial_pair, initial_room}

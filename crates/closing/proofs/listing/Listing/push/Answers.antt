@@ -7,4 +7,4 @@ returns c =
     let entry = rw (c.from.ensures, c.from-2.ensures) at c.entry-entry.ensures in
     rw c.from-kind.ensures
     (lists_push c.args.universe.now.tables c.args.self.now c.args.pair c.entry-entry.result c.single.result
-      c.requires.room small.0 small.1 entry c.single.ensures c.requires.tracks)
+    c.requires.room small.0 small.1 entry c.single.ensures c.requires.tracks)

@@ -1,8 +1,5 @@
-use Rattle.std.proofs.Common.{◌≡◌, sym, ◌∙◌, arith, Some}
-use Rattle.universe.specs.Held.{universe_in}
-use Rattle.plans.specs.Closing.{next_pair}
-use Rattle.closing.specs.Listing.{pairs_of}
-use Rattle.closing.proofs.Rounds.{round_begins, round_ends, round_longer, round_more, round_pair, round_room}
+use Rattle.std.proofs.Common.{sym, ◌∙◌}
+use Rattle.closing.proofs.Rounds.{round_begins, round_ends, round_more, round_pair, round_room}
 use Rattle.closing.proofs.listing.Listing.whole.Goals as goal
 
 pub loop-pair-init : goal.loop-pair-init
