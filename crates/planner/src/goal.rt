@@ -52,7 +52,6 @@ pub(crate) fn check_goal(universe: &Universe, goal: &[u8]) -> Result<(), PlanRef
 }
 
 // Whether some line names the pair.
-#[tactic(auto, using(crate::proofs::Naming::named))]
 pub(crate) fn has_pair(goal: &[u8], pair: Pair) -> bool
     ensures { result ≡ listed (goal_of goal.now) pair }
 {
@@ -68,7 +67,6 @@ fn is_listed(order: &ClosingOrder, pair: Pair) -> bool
 }
 
 // Whether the order lists the pair of every line.
-#[tactic(auto, using(crate::proofs::Naming::all_named))]
 pub(crate) fn is_in_reach(order: &ClosingOrder, goal: &[u8]) -> bool
     ensures { result ≡ list_all (listed (pairs_in_order order.now)) (goal_of goal.now) }
 {
