@@ -1,5 +1,5 @@
 -- The suppliers of a plan, and what is written of its links, steps, instances and script. Assumes nothing.
-use Rattle.std.proofs.Common.{List, [], ◌∷◌, ◌≡◌, ℕ, zero, suc, ◌+◌, ◌<◌, ◌≤◌, Bool, true, false, not, ◌&&◌, length, drop, get_or, ◌∙◌, subst, IsOk, All, eqb, refl, inl, inr, arith}
+use Rattle.std.proofs.Common.{List, [], ◌∷◌, ◌≡◌, ℕ, zero, suc, ◌+◌, ◌-◌, ◌^◌, ◌<◌, ◌≤◌, Bool, true, false, not, ◌&&◌, length, drop, get_or, ◌∙◌, subst, IsOk, All, eqb, refl, inl, inr, arith}
 use denote.Param.Members.{Mut, Called}
 use Rattle.std.specs.Array.{IsFromFnResultFrom}
 use Rattle.std.specs.List.{position, position_or_len}
@@ -24,7 +24,8 @@ use Rattle.lines.specs.Line.{encoded}
 use Rattle.plans.specs.Plan.{Plan, binding, build, order_if, port_orders, script_of, step, walk}
 use Rattle.plans.proofs.Closed.{Closed}
 use Rattle.plans.proofs.Closings.{closing_closed}
-use Rattle.plans.proofs.Paths.{path_listed}
+use Rattle.plans.proofs.Measures.{script_length}
+use Rattle.plans.proofs.Paths.{path_listed, path_short}
 use Rattle.plans.proofs.Ranks.{listed_at}
 use Rattle.plans.specs.Needs.{path}
 use Rattle.plans.specs.Lists.{listed, lists_below, pair_at, rank_of, same_pair}
@@ -85,18 +86,14 @@ module _ {b : Bool} (o : Order) where
   pub wrote_unless : (xs : List ℕ) (j : ℕ) → b ≡ false → Wrote xs j (order_if b o) xs j
   wrote_unless xs j e = rw e (wrote_none xs j)
 
--- a step is its binds, its change and its unbinds
-pub wrote_step : (c : ClosingOrder) (ns : List Pair) (z q r a b : ℕ) (o : Order) {xs ys zs ws : List ℕ} {i j k m : ℕ} →
+-- the ports that are new in a state are those that are new in what it requires
+pub wrote_links : (c : ClosingOrder) (ns : List Pair) (link : Link) (z q r a b : ℕ) {xs ys : List ℕ} {i j : ℕ} →
     a ≡ (entry_at c.universe.tables (pair_at ns z).kind q).required →
     b ≡ (entry_at c.universe.tables (pair_at ns z).kind r).required →
-    o ≡ Change z r →
-    Wrote xs i (links (universe_in_order c).ports Made (plan_on c ns).supplier z a b) ys j →
-    Wrote ys j (o ∷ []) zs k →
-    Wrote zs k (links (universe_in_order c).ports Ended (plan_on c ns).supplier z b a) ws m →
-    Wrote xs i (step (universe_in_order c) (plan_on c ns) z q r) ws m
-unfolding step port_orders
-wrote_step c ns z q r a b o before after is made change ended =
-    wrote_then (rw (before, after) at made) (wrote_then (rw is at change) (rw (before, after) at ended))
+    Wrote xs i (links (universe_in_order c).ports link (plan_on c ns).supplier z a b) ys j →
+    Wrote xs i (port_orders (linked link) (universe_in_order c) (plan_on c ns) z q r) ys j
+unfolding port_orders
+wrote_links c ns link z q r a b before after w = rw (before, after) at w
 
 -- a walk is its steps, one behind the other
 module _ (u : Universe) (s : Plan) (z : ℕ) (rs : List ℕ) (xs : List ℕ) (j : ℕ) where
@@ -145,6 +142,14 @@ module _ (o : ClosingOrder) (ns : List Pair) (suppliers : List ℕ) (plan : Plan
       let step = path_listed (universe_in_order o) (pairs_in_order o) closed h is_listed q on in
       let there = closed.pairs (pair h.kind q) step.0 in
       let most = (valid.states h.kind there.0).1 in
+      omega arith
+
+  -- its script can be counted
+  pub short : length (script_of (universe_in_order o) (plan_on o ns)) ≤ 2 ^ 64 - 1
+  short =
+      let few = plan.few in
+      let most = script_length (universe_in_order o) (plan_on o ns) valid
+      (λ z _ low. path_short (universe_in_order o) (pairs_in_order o) closed (pair_at ns z) (pair_listed z (omega arith)) valid) in
       omega arith
 
 -- an instance is its create, and its walk over the path of its pair

@@ -41,6 +41,17 @@ wrote_then {xs} {ys} {zs} {j} {m} {n} {os} {ps} v w = record {
       ∙ sym (written_then xs j os ps);
 }
 
+-- one order between others
+module _ (xs : List ℕ) (j : ℕ) (os : List Order) (o : Order) (ps : List Order) where
+  pub three_lines : written_at (written_at (written_at xs j os) (place_behind j os) (o ∷ [])) (place_behind (place_behind j os) (o ∷ [])) ps ≡
+      written_at xs j (os ++ (o ∷ ps))
+  unfolding written_at place_behind
+  three_lines = sym (written_then xs j os (o ∷ ps))
+
+  pub three_places : place_behind (place_behind (place_behind j os) (o ∷ [])) ps ≡ place_behind j (os ++ (o ∷ ps))
+  unfolding place_behind
+  three_places = sym (place_then j os (o ∷ ps))
+
 -- the lines of lists that numbers give, end to end
 module _ (f : ℕ → List Order) where
   pub wrote_first : (xs : List ℕ) (j : ℕ) → Wrote xs j (lists_below f 0) xs j

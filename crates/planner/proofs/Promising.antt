@@ -1,5 +1,5 @@
 -- What plan answers, in the words of runs. Assumes nothing.
-use Rattle.std.proofs.Common.{List, [], ◌∷◌, ◌++◌, ◌≡◌, ◌<◌, ◌≤◌, ◌^◌, ◌%◌, ℕ, suc, Bool, true, false, not, ◌||◌, cond, drop, length, map, take, ltb, eqb, Ok, Err, Result, refl, sym, ap, ◌∙◌, arith}
+use Rattle.std.proofs.Common.{List, [], ◌∷◌, ◌++◌, ◌≡◌, ◌≤◌, ◌%◌, ℕ, suc, Bool, true, false, not, ◌||◌, cond, drop, length, map, take, ltb, eqb, Ok, Err, Result, refl, sym, ap, ◌∙◌, arith}
 use mathlib.Core.Bool.{false≢true}
 use Rattle.std.specs.List.{All, list_all}
 use Rattle.std.specs.Result.{IsOk}
@@ -15,13 +15,8 @@ use Rattle.lines.proofs.Coding.{round_trip}
 use Rattle.plans.specs.Lists.{listed}
 use Rattle.plans.specs.Closing.{closing}
 use Rattle.plans.specs.Goals.{Reaches}
-use Rattle.plans.specs.Script.{plan_for, script}
+use Rattle.plans.specs.Script.{script}
 use Rattle.plans.proofs.Laws.{lines_law, reach_law, size_law}
-use Rattle.plans.specs.Needs.{needed}
-use Rattle.plans.specs.Plan.{script_of}
-use Rattle.closing.specs.declared.order.ClosingOrder.{ClosingOrder}
-use Rattle.closing.specs.Order.{pairs_in_order, universe_in_order}
-use Rattle.planner.proofs.Climbing.{valid_order}
 use Rattle.planner.specs.declared.refusal.PlanRefusal.{PlanRefusal}
 use Rattle.planner.specs.declared.refusal.PlanRefusal.TheVariants.{GoalLength, NoPair, OutOfReach, Room}
 use Rattle.planner.specs.Goals.{goal_checked, goal_of, is_goal_line, pair_of_line, refused_if}
@@ -180,11 +175,3 @@ module _ (u : Universe) (bs : List ℕ) (ok : Valid u) where
           let lines : All (λ o. IsOk (encoded o)) os = rw w.2 (lines_law u (goal_of bs) ok few) in
           let told = written_told xs os n lines (sym (ap (λ p. plan_answer p (length xs)) q) ∙ sym is ∙ e) in
           (w.0, (os, told, rw w.2 ((reach_law u (goal_of bs) ok).0 w.1)))
-
--- the script for a goal's pairs is short
-pub script_short : (o : ClosingOrder) (bs : List ℕ) → length bs ≤ 16 →
-    length (script_of (universe_in_order o) (plan_for (universe_in_order o) (pairs_in_order o) (needed (universe_in_order o) (pairs_in_order o) (goal_of bs)))) < 2 ^ 64
-unfolding script
-script_short o bs few =
-    let size = (size_law (universe_in_order o) (goal_of bs) (valid_order o) (omega (arith, goals_length (universe_in_order o) bs (valid_order o)))).1 in
-    omega arith

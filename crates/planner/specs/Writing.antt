@@ -39,8 +39,8 @@ pub record Wrote (xs : List ℕ) (j : ℕ) (os : List Order) (zs : List ℕ) (m 
 
 -- the order for a binding
 abbrev pub linked : Link → Binding → Order
-linked Made b = Bind b
-linked Ended b = Unbind b
+linked Made = Bind
+linked Ended = Unbind
 
 -- in port order, for each port below n in the set after and not in the set before: the order for the binding to its
 -- supplier

@@ -7,7 +7,7 @@ ghost use Rattle.lines.specs.Line.{encoded};
 ghost use Rattle.universe.specs.Sets.{has};
 ghost use Rattle.universe.specs.Tables.{entry_at};
 ghost use Rattle.plans.specs.Lists.{pair_at, rank_of, same_pair};
-ghost use Rattle.plans.specs.Plan.{binding, build, script_of, step, walk};
+ghost use Rattle.plans.specs.Plan.{binding, build, port_orders, script_of, step, walk};
 ghost use Rattle.closing.specs.Order.{pairs_in_order};
 ghost use Rattle.planner.specs.Writing.{AllListed, Planned, Wrote, line_of, linked, links, plan_on};
 ghost use Rattle.planner.specs.Planning.{list_after, plan_answer};
@@ -207,7 +207,7 @@ impl<'a> Plan<'a> {
 
     // Writes, in port order, for each port that is in the set `after` and not in the set `before`,
     // the order for the binding to its supplier.
-    fn write_links(
+    fn write_new(
         &self,
         lines: &mut [u32],
         place: usize,
@@ -227,18 +227,35 @@ impl<'a> Plan<'a> {
         place
     }
 
+    // Writes, in port order, for each port that the instance requires in one state and not in the
+    // state before, the order for the binding to its supplier.
+    fn write_links(
+        &self,
+        lines: &mut [u32],
+        place: usize,
+        link: Link,
+        number: u8,
+        before: u8,
+        after: u8,
+    ) -> usize
+        requires { number < length self.now.pairs.now }
+        ensures { Wrote lines.old place (port_orders (linked link) (universe_planned self.now) (plan_of self.now) number before after) lines.new result }
+    {
+        let before = self.required(number, before);
+        let after = self.required(number, after);
+        self.write_new(lines, place, link, number, before, after)
+    }
+
     // Writes the step of the instance from one state to another: binds, the change, unbinds.
-    #[tactic(auto, using(crate::proofs::Linking::change_in_line))]
+    #[tactic(auto, using(crate::proofs::Linking::change_in_line, crate::proofs::Placing::three_lines, crate::proofs::Placing::three_places), unfolding(plans::specs::Plan::step))]
     fn write_step(&self, lines: &mut [u32], place: usize, number: u8, from: u8, to: u8) -> usize
         requires there { number < length self.now.pairs.now }
         requires small { to < 8 }
         ensures { Wrote lines.old place (step (universe_planned self.now) (plan_of self.now) number from to) lines.new result }
     {
-        let before = self.required(number, from);
-        let after = self.required(number, to);
-        let place = self.write_links(lines, place, Link::Made, number, before, after);
+        let place = self.write_links(lines, place, Link::Made, number, from, to);
         let place = put(lines, place, change(number, to));
-        self.write_links(lines, place, Link::Ended, number, after, before)
+        self.write_links(lines, place, Link::Ended, number, to, from)
     }
 
     // Writes the steps of the instance from state 0 over the states.
@@ -281,7 +298,6 @@ impl<'a> Plan<'a> {
     }
     // How many lines the script has.
     fn count(&self) -> usize
-        requires { length (script_of (universe_planned self.now) (plan_of self.now)) < 2 ^ 64 }
         ensures { result ≡ length (script_of (universe_planned self.now) (plan_of self.now)) }
     {
         self.write(&mut [])
@@ -289,8 +305,7 @@ impl<'a> Plan<'a> {
 
     // Writes the script into the list, which has room for it.
     fn write_whole(&self, lines: &mut [u32])
-        requires short { length (script_of (universe_planned self.now) (plan_of self.now)) < 2 ^ 64 }
-        requires fits { length (script_of (universe_planned self.now) (plan_of self.now)) ≤ length lines.now }
+        requires { length (script_of (universe_planned self.now) (plan_of self.now)) ≤ length lines.now }
         ensures { lines.new ≡ map line_of (script_of (universe_planned self.now) (plan_of self.now)) ++ drop (length (script_of (universe_planned self.now) (plan_of self.now))) lines.old }
     {
         self.write(lines);
@@ -299,7 +314,6 @@ impl<'a> Plan<'a> {
     // Writes the script into the list, and answers how many lines it has; refused where the list
     // has fewer places.
     pub(crate) fn write_into(&self, lines: &mut [u32]) -> Result<usize, PlanRefusal>
-        requires { length (script_of (universe_planned self.now) (plan_of self.now)) < 2 ^ 64 }
         ensures answer { result ≡ plan_answer (Ok (script_of (universe_planned self.now) (plan_of self.now))) (length lines.old) }
         ensures lines { lines.new ≡ list_after (Ok (script_of (universe_planned self.now) (plan_of self.now))) lines.old }
     {

@@ -1,6 +1,8 @@
-use Rattle.std.proofs.Common.{arith}
 use Rattle.planner.proofs.Placing.{wrote_length}
+use Rattle.planner.proofs.Linking.{short}
 use Rattle.planner.proofs.writing.Plan.count.Goals as goal
 
 pub returns : goal.returns
-returns c = let short = c.requires in wrote_length c.write.ensures (omega arith)
+returns c =
+    let s = c.args.self.now in
+    wrote_length c.write.ensures (short s.order.now s.pairs.now s.suppliers s.planned)

@@ -1,5 +1,5 @@
 use Rattle.planner.specs.Writing.{Wrote, links, plan_on}
-use Rattle.planner.proofs.writing.Plan.write_links.Given as goal
+use Rattle.planner.proofs.writing.Plan.write_new.Given as goal
 
 abbrev pub invariant-loop-port : goal.invariant-loop-port
 invariant-loop-port l =
