@@ -12,6 +12,9 @@ use Rattle.model.specs.declared.order.Order.{Order}
 use Rattle.model.specs.Universe.{Universe, IsPair, Valid}
 use Rattle.lines.specs.Line.{decoded, encoded, fields_of_order, fits}
 use Rattle.lines.proofs.Coding.{round_trip}
+use Rattle.universe.specs.declared.held.Universe.{Universe as Held}
+use Rattle.universe.specs.Held.{universe_in}
+use Rattle.universe.proofs.Sounds.{sound}
 use Rattle.plans.specs.Lists.{listed}
 use Rattle.plans.specs.Closing.{closing}
 use Rattle.plans.specs.Goals.{Reaches}
@@ -21,7 +24,7 @@ use Rattle.planner.specs.declared.refusal.PlanRefusal.{PlanRefusal}
 use Rattle.planner.specs.declared.refusal.PlanRefusal.TheVariants.{GoalLength, NoPair, OutOfReach, Room}
 use Rattle.planner.specs.Goals.{goal_checked, goal_of, is_goal_line, pair_of_line, refused_if}
 use Rattle.planner.specs.Writing.{line_of}
-use Rattle.planner.specs.Planning.{IsGoal, RefusedExactly, WritesRun, list_after, plan_answer, planned, planned_for}
+use Rattle.planner.specs.Planning.{IsGoal, RefusedExactly, Unreached, WritesRun, list_after, plan_answer, planned, planned_for}
 
 -- refusals differ from one another and from answers
 pub not_same : {X : Type 0} → ◌≡◌ {A = ℕ} 0 1 → X
@@ -136,16 +139,16 @@ module _ (u : Universe) (bs : List ℕ) (ok : Valid u) where
       by false e = not_same cc
   answer_out (Err e) room is = let z = is in cc
 
-  pub refused_exactly : (room : ℕ) (r : Result ℕ PlanRefusal) → r ≡ plan_answer (planned u bs) room → RefusedExactly u bs r
-  refused_exactly room r is = (there, back)
+  refused_exactly : (room : ℕ) (r : Result ℕ PlanRefusal) → r ≡ plan_answer (planned u bs) room → RefusedExactly u bs r
+  refused_exactly room r is = record { only = only; always = always }
     where
-      there : r ≡ Err OutOfReach → IsGoal u bs × ((os : List Order) → Reaches u os (goal_of bs) → ⊥)
-      there e =
+      only : r ≡ Err OutOfReach → IsGoal u bs × Unreached u (goal_of bs)
+      only e =
           let out = planned_out (answer_out (planned u bs) room (sym is ∙ e)) in
           (out.0, λ os reaches. both_ways in_reach out.1 ((reach_law u (goal_of bs) ok).1 os reaches))
 
-      back : IsGoal u bs × ((os : List Order) → Reaches u os (goal_of bs) → ⊥) → r ≡ Err OutOfReach
-      back (g, none) =
+      always : IsGoal u bs → Unreached u (goal_of bs) → r ≡ Err OutOfReach
+      always g none =
           is ∙ ap (λ p. plan_answer p room)
           (out_planned g (refuted in_reach (λ reach. none (script u (goal_of bs)) ((reach_law u (goal_of bs) ok).0 reach))))
 
@@ -162,16 +165,25 @@ module _ (u : Universe) (bs : List ℕ) (ok : Valid u) where
           ap (map decoded) (ap (λ k. take k (map line_of os ++ drop (length os) xs)) long ∙ take-append_seam (map line_of os) (drop (length os) xs))
           ∙ decoded_lines os lines
 
-  pub writes_run : (xs : List ℕ) (r : Result ℕ PlanRefusal) → r ≡ plan_answer (planned u bs) (length xs) →
+  writes_run : (xs : List ℕ) (r : Result ℕ PlanRefusal) → r ≡ plan_answer (planned u bs) (length xs) →
       WritesRun u bs r (list_after (planned u bs) xs)
-  writes_run xs r is n e = by (planned u bs) refl
+  writes_run xs r is = record { goal = λ n e. (by n e (planned u bs) refl).0; run = λ n e. (by n e (planned u bs) refl).1 }
     where
-      by : (p : Result (List Order) PlanRefusal) → planned u bs ≡ p →
+      by : (n : ℕ) → r ≡ Ok n → (p : Result (List Order) PlanRefusal) → planned u bs ≡ p →
           IsGoal u bs × ((os : List Order) × (map decoded (take n (list_after p xs)) ≡ map Ok os) × Reaches u os (goal_of bs))
-      by (Err d) q = not_same (let z = sym e ∙ is ∙ ap (λ p. plan_answer p (length xs)) q in cc)
-      by (Ok os) q =
+      by n e (Err d) q = not_same (let z = sym e ∙ is ∙ ap (λ p. plan_answer p (length xs)) q in cc)
+      by n e (Ok os) q =
           let w = planned_is os q in
           let few : length (goal_of bs) ≤ 16 = omega (arith, goals_length, w.0.few) in
           let lines : All (λ o. IsOk (encoded o)) os = rw w.2 (lines_law u (goal_of bs) ok few) in
           let told = written_told xs os n lines (sym (ap (λ p. plan_answer p (length xs)) q) ∙ sym is ∙ e) in
           (w.0, (os, told, rw w.2 ((reach_law u (goal_of bs) ok).0 w.1)))
+
+-- of a universe that the code holds
+module _ (h : Held) (bs : List ℕ) (r : Result ℕ PlanRefusal) where
+  pub refused_held : (room : ℕ) → r ≡ plan_answer (planned (universe_in h) bs) room → RefusedExactly (universe_in h) bs r
+  refused_held room is = refused_exactly (universe_in h) bs (sound h.tables h.sound).valid room r is
+
+  pub run_held : (xs zs : List ℕ) → r ≡ plan_answer (planned (universe_in h) bs) (length xs) →
+      zs ≡ list_after (planned (universe_in h) bs) xs → WritesRun (universe_in h) bs r zs
+  run_held xs zs is written = rw written (writes_run (universe_in h) bs (sound h.tables h.sound).valid xs r is)

@@ -1,5 +1,5 @@
 -- What plan answers, what the list holds afterwards, and what that means for runs.
-use Rattle.std.specs.Prelude.{◌≡◌, ℕ, ◌≤◌, ◌%◌, ◌↔◌, cond, not, All, List, ◌++◌, drop, length, map, take, Ok, Err, Result, nat_lt}
+use Rattle.std.specs.Prelude.{◌≡◌, ℕ, ◌≤◌, ◌%◌, cond, not, All, List, ◌++◌, drop, length, map, take, Ok, Err, Result, nat_lt}
 use Rattle.std.specs.List.{list_all}
 use Rattle.model.specs.declared.pair.Pair.{Pair}
 use Rattle.model.specs.declared.order.Order.{Order}
@@ -39,10 +39,17 @@ pub record IsGoal (u : Universe) (bs : List ℕ) : Type 0 where
   pub few : length bs ≤ 16
   pub lines : All (λ b. (b % 2 ≡ 0) × IsPair u (pair_of_line b).kind (pair_of_line b).state) bs
 
--- a goal is refused as out of reach exactly if no run reaches it
-abbrev pub RefusedExactly : Universe → List ℕ → Result ℕ PlanRefusal → Type 0
-RefusedExactly u bs r = (r ≡ Err OutOfReach) ↔ (IsGoal u bs × ((os : List Order) → Reaches u os (goal_of bs) → ⊥))
+-- no run reaches the goal, of any length
+abbrev pub Unreached : Universe → List Pair → Type 0
+Unreached u goal = (os : List Order) → Reaches u os goal → ⊥
 
--- when it is done, the bytes are a goal, and the first lines, as many as it answers, tell a run that reaches the goal
-abbrev pub WritesRun : Universe → List ℕ → Result ℕ PlanRefusal → List ℕ → Type 0
-WritesRun u bs r xs = (n : ℕ) → r ≡ Ok n → IsGoal u bs × ((os : List Order) × (map decoded (take n xs) ≡ map Ok os) × Reaches u os (goal_of bs))
+-- a goal is refused as out of reach exactly if no run reaches it
+pub record RefusedExactly (u : Universe) (bs : List ℕ) (r : Result ℕ PlanRefusal) : Type 0 where
+  pub only : r ≡ Err OutOfReach → IsGoal u bs × Unreached u (goal_of bs)
+  pub always : IsGoal u bs → Unreached u (goal_of bs) → r ≡ Err OutOfReach
+
+-- when it is done, the bytes are a goal, and the first lines of the list, as many as it answers, tell a run that reaches the
+-- goal
+pub record WritesRun (u : Universe) (bs : List ℕ) (r : Result ℕ PlanRefusal) (xs : List ℕ) : Type 0 where
+  pub goal : (n : ℕ) → r ≡ Ok n → IsGoal u bs
+  pub run : (n : ℕ) → r ≡ Ok n → (os : List Order) × (map decoded (take n xs) ≡ map Ok os) × Reaches u os (goal_of bs)

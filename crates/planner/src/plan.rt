@@ -41,6 +41,7 @@ fn write_plan(universe: &Universe, goal: &[u8], lines: &mut [u32]) -> Result<usi
 // Plans the goal, a line in each byte, into the list: writes the script's lines, leaves what is behind them, and answers how
 // many they are. On a refusal the list stays as it was. A goal is refused as out of reach exactly if no run reaches it; what
 // is written tells a run that does.
+#[tactic(auto, using(crate::proofs::Promising::refused_held, crate::proofs::Promising::run_held))]
 pub fn plan(universe: &Universe, goal: &[u8], lines: &mut [u32]) -> Result<usize, PlanRefusal>
     ensures answer { result ≡ plan_answer (planned (universe_in universe.now) goal.now) (length lines.old) }
     ensures lines { lines.new ≡ list_after (planned (universe_in universe.now) goal.now) lines.old }

@@ -1,5 +1,5 @@
 -- A list of more places than any script has lines gives no other answer. Assumes nothing.
-use Rattle.std.proofs.Common.{◌≡◌, ℕ, ◌≤◌, min, List, length, ltb, Ok, Err, Result, refl, ap, ◌∙◌, inl, inr, arith}
+use Rattle.std.proofs.Common.{◌≡◌, ℕ, ◌≤◌, min, List, length, ltb, Ok, Err, Result, refl, ap, ◌∙◌, subst, inl, inr, arith}
 use Rattle.std.proofs.lemmas.Bool.{cases_lt, le-ltb, lt-ltb}
 use Rattle.model.specs.declared.order.Order.{Order}
 use Rattle.model.specs.Universe.{Universe, Valid}
@@ -13,6 +13,8 @@ use Rattle.planner.specs.declared.refusal.PlanRefusal.{PlanRefusal}
 use Rattle.planner.specs.Planning.{planned}
 use Rattle.planner.proofs.Promising.{planned_short}
 use Rattle.console.specs.Refused.{refusal_told}
+use Rattle.console.specs.declared.failure.Failure.{Failure}
+use Rattle.console.specs.Told.{Told}
 use Rattle.planning.specs.Planning.{lines_in, planned_lines}
 
 -- the test of the room comes out alike
@@ -41,3 +43,10 @@ pub file_lines : (bs : List ℕ) (room : ℕ) (r : Read Tables) (h : Held) → O
     lines_in (min room 11136) (planned (universe_in h) bs) ≡ planned_lines bs room r
 file_lines bs room r h e =
     same_lines (universe_in h) bs room (sound h.tables h.sound).valid ∙ read_lines bs room r h.tables e
+
+-- so a call that tells the lines for the universe that was read tells those of the file
+pub told_lines : {T E : Type 0} (f : T → List ℕ) (g : E → List ℕ) (told : Result T (Failure E)) (bs : List ℕ) (room n : ℕ) (r : Read Tables) (h : Held) →
+    Told f g told (lines_in n (planned (universe_in h) bs)) → n ≡ min room 11136 → Ok h.tables ≡ refusal_told r →
+    Told f g told (planned_lines bs room r)
+told_lines f g told bs room n r h lines short read =
+    subst (Told f g told) (ap (λ m. lines_in m (planned (universe_in h) bs)) short ∙ file_lines bs room r h read) lines

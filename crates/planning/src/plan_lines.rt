@@ -36,6 +36,7 @@ fn lines_for(
 
 // The lines of the script for the goal in the universe of a packed file, in a list of so many places; or the refusal of the
 // file or of the goal.
+#[tactic(auto, using(crate::proofs::Rooms::told_lines))]
 pub fn plan_lines(
     alloc: Global,
     universe: &[u8],
