@@ -262,10 +262,11 @@ def random_goal(draw, universe, kind):
     return bytes(goal)
 
 
-def random_case(draw, size=None, kind=None):
-    """(universe, packed universe, goal, places). The places are often one less than the script's lines, or about as many."""
-    universe = random_types(draw, size or draw.one(SIZES))
-    goal = random_goal(draw, universe, kind or draw.one(["late"] * 10 + ["listed"] * 4 + ["any"] * 3 + ["byte", "byte", "length"]))
+def random_case(draw):
+    """(universe, packed universe, goal, places). The places are all, or none, or one less than the script has lines, as many, or
+    one more."""
+    universe = random_types(draw, draw.one(SIZES))
+    goal = random_goal(draw, universe, draw.one(["late"] * 10 + ["listed"] * 4 + ["any"] * 3 + ["byte", "byte", "length"]))
     _, orders = plan(universe, goal, MOST_LINES)
     places = [MOST_LINES] * 6 + [0] + ([len(orders) - 1, len(orders), len(orders) + 1] if orders else [1])
     return universe, packed(*universe), goal, draw.one(places)
