@@ -18,7 +18,7 @@ first_map f g k same (h ∷ hs) =
     ap (λ b. cond (not b) (1 + position_or_len f (map k hs)) 0) (same h) ∙ ap (λ n. cond (not (g h)) (1 + n) 0) (first_map f g k same hs)
 
 -- the place that a search finds, or else the length
-or_length : {X : Type 0} (f : X → Bool) (xs : List X) → unwrap_or (position f xs) (length xs) ≡ position_or_len f xs
+pub or_length : {X : Type 0} (f : X → Bool) (xs : List X) → unwrap_or (position f xs) (length xs) ≡ position_or_len f xs
 or_length f xs =
     elim (cases_lt (position_or_len f xs) (length xs)) [
       | inl low ↦ rw (lt-ltb (position_or_len f xs) (length xs) low)

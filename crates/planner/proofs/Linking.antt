@@ -2,10 +2,8 @@
 use Rattle.std.proofs.Common.{List, [], ◌∷◌, ◌≡◌, ℕ, zero, suc, ◌+◌, ◌-◌, ◌^◌, ◌<◌, ◌≤◌, Bool, true, false, not, ◌&&◌, length, drop, get_or, ◌∙◌, subst, IsOk, All, eqb, refl, inl, inr, arith}
 use denote.Param.Members.{Mut, Called}
 use Rattle.std.specs.Array.{IsFromFnResultFrom}
-use Rattle.std.specs.List.{position, position_or_len}
-use Rattle.std.specs.Option.{unwrap_or}
 use Rattle.std.proofs.lemmas.Bool.Decides.{nat_tests}
-use Rattle.std.proofs.lemmas.Bool.{and_parts, cases_eq, cases_lt, eq-eqb, le-ltb, lt-ltb}
+use Rattle.std.proofs.lemmas.Bool.{and_parts, cases_eq, eq-eqb}
 use Rattle.std.proofs.lemmas.List.{drop_all, drop_more}
 use Rattle.std.proofs.lemmas.List.Folds.{list_any_at}
 use Rattle.std.proofs.lemmas.List.Sums.{prefix_len-le-length}
@@ -33,17 +31,6 @@ use Rattle.planner.specs.declared.writing.Link.{Link}
 use Rattle.planner.specs.declared.writing.Link.TheVariants.{Made, Ended}
 use Rattle.planner.specs.Writing.{Planned, Wrote, linked, links, plan_on}
 use Rattle.planner.proofs.Placing.{wrote_more, wrote_none, wrote_then}
-
--- the place that a search finds, or else the length
-pub found_or_length : {X : Type 0} (f : X → Bool) (xs : List X) →
-    unwrap_or (position f xs) (length xs) ≡ position_or_len f xs
-found_or_length f xs =
-    elim (cases_lt (position_or_len f xs) (length xs)) [
-      | inl low ↦ rw (lt-ltb (position_or_len f xs) (length xs) low)
-      | inr past ↦
-          let most = prefix_len-le-length (λ x. not (f x)) xs in
-          rw (le-ltb (position_or_len f xs) (length xs) past) (omega arith)
-    ]
 
 -- a number is at most the length of the list
 pub rank_most : (l : List Pair) (h : Pair) → rank_of l h ≤ length l

@@ -59,7 +59,7 @@ fn place_of(pairs: &[Pair], pair: Pair) -> Option<usize>
 }
 
 // The number of the pair: its place in the list, or the list's length where it is not in it.
-#[tactic(auto, using(crate::proofs::Linking::found_or_length))]
+#[tactic(auto, using(closing::proofs::Lookups::or_length))]
 fn number_of(pairs: &[Pair], pair: Pair) -> usize
     ensures { result ≡ rank_of pairs.now pair }
 {
