@@ -11,6 +11,7 @@ Run from the repository's root, it writes the inputs to crates/cases/data/ and w
 import os
 
 import plan_cases
+import planning
 from planning import plan
 
 HARBOUR = bytes.fromhex(
@@ -706,6 +707,9 @@ PLANS = [
         ("the largest universe: a state with 32 ports", full(), "02", WHOLE,
             "/".join(["c 0 0", "c 1 0"] + [f"b {p} 0 1" for p in range(32)] + ["s 1 1"])),
         ("the largest universe: the last state of each type", full(), "0e1e2e3e4e5e6e7e8e9eaebecedeeefe", WHOLE, "545 lines"),
+        ("a universe that is cut short", HARBOUR[:-1], "24", WHOLE, "refused 1"),
+        ("a universe that is cut short, and no goal and no places", HARBOUR[:-1], "", 0, "refused 1"),
+        ("a universe with no types", bytes(2), "24", WHOLE, "refused 2"),
     ]
 ] + plan_cases.CASES
 # A longer script is not printed, but its checksum.
@@ -720,9 +724,40 @@ def checksum(data):
     return value
 
 
+def closing_text(data):
+    """What is printed of a universe's closing order."""
+    try:
+        universe = read_universe(data)
+    except Refused as r:
+        return f"refused {r.number}\n"
+    listed, text = planning.closing(universe), ""
+    for rank, (t, q) in enumerate(listed):
+        parent = "-" if q == 0 else listed.index(planning.parent(universe, listed, (t, q)))
+        text += f"{rank} {t}/{q} parent {parent}\n"
+    for port in range(universe[0]):
+        ranks = [rank for rank, (t, q) in enumerate(listed) if port in universe[1][t][q][0]]
+        text += f"port {port} supplier {ranks[0] if ranks else '-'}\n"
+    return text
+
+
+def closings_table():
+    """The same of a table: all universes of `cases`, and those that are made for the planner."""
+    rows, out, seen = "", "closings\n", set()
+    for label, data in UNIVERSES + [(case[0], case[1]) for case in plan_cases.CASES]:
+        if data not in seen:
+            seen.add(data)
+            rows += f"{label} = {data.hex()}\n"
+            out += f"{label}:\n{closing_text(data)}"
+    return rows, out
+
+
 def plan_text(label, universe, goal, room, by_hand):
     """What is printed of a case, whose answer has to be that by hand."""
-    number, orders = plan(read_universe(universe), goal, room)
+    try:
+        number, orders = plan(read_universe(universe), goal, room)
+    except Refused as r:
+        assert by_hand == f"refused {r.number}", label
+        return f"refused {r.number}\n"
     answers = [f"refused {number}"] if number else ["/".join(orders), f"{len(orders)} lines"]
     assert by_hand in answers or by_hand is None, f"{label}: {answers[0]}, by hand {by_hand}"
     text = f"refused {number}\n" if number else f"{len(orders)} lines\n"
@@ -767,12 +802,15 @@ def main():
         f.write(out)
     with open(os.path.join(hosts, "stdout"), "w") as f:
         f.write(host_out + layered_out)
+    closing_rows, closing_out = closings_table()
     plan_rows, plan_out = plans_table()
     os.makedirs(os.path.join(plans, "data"), exist_ok=True)
     with open(os.path.join(plans, "data", "plans.txt"), "w") as f:
         f.write(plan_rows)
+    with open(os.path.join(plans, "data", "closings.txt"), "w") as f:
+        f.write(closing_rows)
     with open(os.path.join(plans, "stdout"), "w") as f:
-        f.write(plan_out)
+        f.write(closing_out + plan_out)
 
 
 if __name__ == "__main__":

@@ -7,7 +7,13 @@ use Rattle.std.proofs.lemmas.List.Sums.{prefix_len-le-length}
 use Rattle.model.specs.declared.pair.Pair.{Pair}
 use Rattle.universe.specs.declared.tables.Tables.{Tables}
 use Rattle.closing.specs.declared.order.Listed.{Listed}
-use Rattle.closing.specs.Places.{Places, kept_of}
+use Rattle.universe.specs.Held.{universe_in}
+use Rattle.universe.specs.Sets.{has}
+use Rattle.plans.specs.Lists.{rank_of, same_pair}
+use Rattle.plans.specs.Closing.{follows, parent_rank, provides, supplier_rank}
+use Rattle.closing.specs.declared.order.ClosingOrder.{ClosingOrder}
+use Rattle.closing.specs.Order.{pairs_in_order, universe_in_order}
+use Rattle.closing.specs.Places.{kept_of}
 use Rattle.std.proofs.lemmas.List.{length-take-le}
 
 -- the first among images is the first whose image passes
@@ -27,12 +33,28 @@ or_length f xs =
           rw (le-ltb (position_or_len f xs) (length xs) past) (omega arith)
     ]
 
-module _ (t : Tables) (l : List Pair) (places : List Listed) (len : ℕ) (p : Places t l places len) where
-  pub found : (f : Listed → Bool) (g : Pair → Bool) → ((h : Pair) → f (kept_of t h) ≡ g h) → (r : Option ℕ) →
-      r ≡ position f (take len places) → (n : ℕ) → n ≡ unwrap_or r len → n ≡ position_or_len g l
-  found f g same r searched n is =
-      is ∙ ap (λ o. unwrap_or o len) searched ∙ ap (λ m. unwrap_or (position f (take len places)) m) long
-      ∙ or_length f (take len places) ∙ ap (position_or_len f) p.kept ∙ first_map f g (kept_of t) same l
+-- a search among the places of a kept order
+module _ (o : ClosingOrder) (f : Listed → Bool) (g : Pair → Bool) (same : (h : Pair) → f (kept_of o.universe.tables h) ≡ g h) where
+  found : unwrap_or (position f (take o.len o.places)) o.len ≡ position_or_len g (pairs_in_order o)
+  found =
+      ap (λ m. unwrap_or (position f (take o.len o.places)) m) long
+      ∙ or_length f (take o.len o.places) ∙ ap (position_or_len f) o.kept.kept
+      ∙ first_map f g (kept_of o.universe.tables) same (pairs_in_order o)
     where
-      long : len ≡ length (take len places)
-      long = sym (length-take-le len places (omega (arith, p.room, p.within)))
+      long : o.len ≡ length (take o.len o.places)
+      long = sym (length-take-le o.len o.places (omega (arith, o.kept.room, o.kept.within)))
+
+module _ (o : ClosingOrder) where
+  pub rank_found : (h : Pair) →
+      unwrap_or (position (λ e. same_pair h e.pair) (take o.len o.places)) o.len ≡ rank_of (pairs_in_order o) h
+  rank_found h = found o (λ e. same_pair h e.pair) (same_pair h) (λ g. refl)
+
+  pub parent_found : (h : Pair) →
+      unwrap_or (position (λ e. follows (universe_in o.universe) h e.pair) (take o.len o.places)) o.len ≡
+        parent_rank (universe_in_order o) (pairs_in_order o) h
+  parent_found h = found o (λ e. follows (universe_in o.universe) h e.pair) (follows (universe_in o.universe) h) (λ g. refl)
+
+  pub supplier_found : (p : ℕ) →
+      unwrap_or (position (λ e. has 32 e.provided p) (take o.len o.places)) o.len ≡
+        supplier_rank (universe_in_order o) (pairs_in_order o) p
+  supplier_found p = found o (λ e. has 32 e.provided p) (provides (universe_in o.universe) p) (λ g. refl)

@@ -112,10 +112,6 @@ module _ (h : Held) where
           midway = rw (places_pairs h.tables _ r.places r.len lists.places) (midway_more (universe_in h) (pairs_of s) g valid round.midway next);
         }
 
-    pub round_longer : (r : Listing) → Lists h.tables (pairs_of s ++ (g ∷ [])) r → r.len ≡ s.len + 1
-    round_longer r lists =
-        omega (arith, places_length h.tables _ r.places r.len lists.places, places_length h.tables _ s.places s.len round.lists.places, length_pushed (pairs_of s) g)
-
   pub round_ends : (s : Listing) → Round h s → next_pair (universe_in h) (pairs_of s) ≡ None → Lists h.tables (closing (universe_in h)) s
   round_ends s round none =
       subst (λ l. Lists h.tables l s) (midway_ends (universe_in h) (pairs_of s) round.midway none) round.lists

@@ -18,7 +18,7 @@ use Rattle.universe.specs.declared.tables.Tables.{Tables}
 use Rattle.universe.specs.Sets.{has}
 use Rattle.universe.specs.Tables.{entry_at, universe_of}
 use Rattle.plans.specs.Lists.{listed, same_pair}
-use Rattle.plans.specs.Closing.{lacks, leads, provides}
+use Rattle.plans.specs.Closing.{lacks, follows, provides}
 use Rattle.plans.proofs.Ranks.{any_pushed}
 use Rattle.closing.specs.declared.order.Listed.{Listed}
 use Rattle.closing.specs.declared.listing.Listing.{Listing}
@@ -89,11 +89,11 @@ module _ (t : Tables) (l : List Pair) (h : Pair) where
           | inr other ↦ rw (off_kind _ other, ne_eqb k h.kind other) (sym (or-false _))
         ])
 
-    pub led_more : has 8 (get_or marks k 0) q ≡ list_any (leads (universe_of t) (pair k q)) l →
+    pub led_more : has 8 (get_or marks k 0) q ≡ list_any (follows (universe_of t) (pair k q)) l →
         has 8 (get_or (set marks h.kind (bit_or (get_or marks h.kind 0) (entry_at t h.kind h.state).successors)) k 0) q ≡
-        list_any (leads (universe_of t) (pair k q)) (l ++ (h ∷ []))
+        list_any (follows (universe_of t) (pair k q)) (l ++ (h ∷ []))
     led_more e =
-        rw (any_pushed l h (leads (universe_of t) (pair k q)), ← e)
+        rw (any_pushed l h (follows (universe_of t) (pair k q)), ← e)
         (elim (cases_eq k h.kind) [
           | inl same ↦ rw (at_kind (entry_at t h.kind h.state).successors same, eq-eqb h.kind k (sym same))
           | inr other ↦ rw (off_kind _ other, ne_eqb h.kind k (λ e. other (sym e))) (sym (or-false _))
@@ -115,12 +115,6 @@ sets_push t l h provided marks led low small s =
 
 -- the listing tells by its sets what its pairs tell
 module _ (h : Universe) (s : Listing) (p : Pair) (lists : Lists h.tables (pairs_of s) s) where
-  pub listed_told : has 8 (get_or s.listed p.kind 0) p.state ≡ listed (pairs_of s) p
-  listed_told = lists.sets.listed_pairs p.kind p.state
-
-  pub led_told : has 8 (get_or s.led p.kind 0) p.state ≡ list_any (leads (universe_in h) p) (pairs_of s)
-  led_told = lists.sets.led_pairs p.kind p.state
-
   pub lack_told : exceeds (entry_at h.tables p.kind p.state).required s.provided ≡ lacks (universe_in h) (pairs_of s) p
   unfolding exceeds lacks
   lack_told =

@@ -8,7 +8,7 @@ use Rattle.universe.specs.declared.tables.Tables.{Tables}
 use Rattle.universe.specs.Sets.{has}
 use Rattle.universe.specs.Tables.{universe_of}
 use Rattle.plans.specs.Lists.{listed}
-use Rattle.plans.specs.Closing.{leads, provides}
+use Rattle.plans.specs.Closing.{follows, provides}
 use Rattle.closing.specs.declared.order.Listed.{Listed}
 use Rattle.closing.specs.Places.{Places}
 use Rattle.closing.specs.declared.listing.Listing.{Listing}
@@ -27,7 +27,7 @@ pub record Sets (t : Tables) (l : List Pair) (provided : ℕ) (listed_states led
   pub leads_marks : length led_states ≡ 16
   pub provided_ports : (p : ℕ) → has 32 provided p ≡ list_any (provides (universe_of t) p) l
   pub listed_pairs : (k q : ℕ) → has 8 (slice_index listed_states k) q ≡ listed l (pair k q)
-  pub led_pairs : (k q : ℕ) → has 8 (slice_index led_states k) q ≡ list_any (leads (universe_of t) (pair k q)) l
+  pub led_pairs : (k q : ℕ) → has 8 (slice_index led_states k) q ≡ list_any (follows (universe_of t) (pair k q)) l
 
 -- the listing has listed the pairs of l
 pub record Lists (t : Tables) (l : List Pair) (s : Listing) : Type 0 where

@@ -7,7 +7,7 @@ ghost use Rattle.model.specs.Universe.{IsPair};
 ghost use Rattle.universe.specs.declared.tables.Tables.{Tables};
 ghost use Rattle.universe.specs.Held.{universe_in};
 ghost use Rattle.plans.specs.Lists.{listed, some_if};
-ghost use Rattle.plans.specs.Closing.{addable, closing, initial_pairs, lacks, leads, next_pair};
+ghost use Rattle.plans.specs.Closing.{addable, closing, follows, initial_pairs, lacks, next_pair};
 ghost use Rattle.closing.specs.Listing.{Lists, Tracks, exceeds, pairs_of};
 
 use crate::order::Listed;
@@ -15,8 +15,8 @@ use model::pair::Pair;
 use universe::held::Universe;
 use universe::sets::Field;
 
-// The pairs that are listed so far, and what tells whether a pair can be added: the ports that listed pairs provide, and
-// for each type the listed states and the successors of listed states.
+// The pairs that are listed so far, and what tells whether a pair can be added: the ports that
+// listed pairs provide, and for each type the listed states and the successors of listed states.
 #[derive(Clone, Copy)]
 pub(crate) struct Listing {
     pub(crate) places: [Listed; 128],
@@ -109,7 +109,6 @@ impl Listing {
     }
 
     // Whether the pair is listed.
-    #[tactic(auto, using(crate::proofs::Tracking::listed_told))]
     fn is_listed(&self, universe: &Universe, pair: Pair) -> bool
         requires tracks { Tracks universe.now.tables self.now }
         ensures { result ≡ listed (pairs_of self.now) pair }
@@ -118,10 +117,9 @@ impl Listing {
     }
 
     // Whether a listed pair has the pair as a successor.
-    #[tactic(auto, using(crate::proofs::Tracking::led_told))]
     fn is_led(&self, universe: &Universe, pair: Pair) -> bool
         requires tracks { Tracks universe.now.tables self.now }
-        ensures { result ≡ list_any (leads (universe_in universe.now) pair) (pairs_of self.now) }
+        ensures { result ≡ list_any (follows (universe_in universe.now) pair) (pairs_of self.now) }
     {
         states_of(&self.led, pair.kind).has(u32::from(pair.state))
     }

@@ -3,7 +3,7 @@ ghost use Rattle.std.specs.Prelude.{◌≡◌, length, position, slice_get, take
 ghost use Rattle.universe.specs.Held.{universe_in};
 ghost use Rattle.universe.specs.Sets.{has};
 ghost use Rattle.plans.specs.Lists.{rank_of, same_pair};
-ghost use Rattle.plans.specs.Closing.{leads, parent_rank, supplier_rank};
+ghost use Rattle.plans.specs.Closing.{follows, parent_rank, supplier_rank};
 ghost use Rattle.closing.specs.Order.{pairs_in_order, universe_in_order};
 
 use crate::listing::Listing;
@@ -14,7 +14,7 @@ use universe::sets::Field;
 
 // Whether the pair has the other, of the same type, as a successor.
 fn leads(universe: &Universe, from: Pair, to: Pair) -> bool
-    ensures { result ≡ leads (universe_in universe.now) to from }
+    ensures { result ≡ follows (universe_in universe.now) to from }
 {
     from.kind == to.kind
         && universe.is_successor(
@@ -33,7 +33,7 @@ fn place_of(places: &[Listed], pair: Pair) -> Option<usize>
 
 // The first place whose pair has the pair as a successor.
 fn place_leading(universe: &Universe, places: &[Listed], pair: Pair) -> Option<usize>
-    ensures { result ≡ position (λ e. leads (universe_in universe.now) pair e.pair) places.now }
+    ensures { result ≡ position (λ e. follows (universe_in universe.now) pair e.pair) places.now }
 {
     places
         .iter()
@@ -95,7 +95,8 @@ impl ClosingOrder {
         place_of(self.places(), pair).unwrap_or(self.len)
     }
 
-    // The rank of the parent of the pair, the lowest that has it as a successor; the number of listed pairs where none has.
+    // The rank of the parent of the pair, the lowest that has it as a successor; the number of
+    // listed pairs where none has.
     pub fn parent(&self, pair: Pair) -> usize
         ensures { result ≡ parent_rank (universe_in_order self.now) (pairs_in_order self.now) pair }
     {

@@ -19,8 +19,8 @@ lone = record {
 }
 
 pub record PlanCases : Type 0 where
-  -- the serving dispatcher: lock, roster and dispatcher are built one after the other, and the dispatcher lets the lock go
-  -- once it serves
+  -- the serving dispatcher: lock, roster and dispatcher are built one after the other, and the dispatcher lets the lock
+  -- go once it serves
   pub serving : planned harbour harbour_goal ≡ Ok (
       Create 0 0 ∷ Change 0 1
       ∷ Create 1 1 ∷ Bind (binding 0 0 1) ∷ Change 1 1

@@ -23,8 +23,8 @@ pub fn goal() -> [u8; 1]
     [0x24]
 }
 
-// The worked cases hold, jointly: the harbour universe has this file, these orders have these lines, and these goals have
-// these scripts.
+// The worked cases hold, jointly: the harbour universe has this file, these orders have these
+// lines, and these goals have these scripts.
 pub fn cases_hold()
     ensures { HarbourCases }
 {}

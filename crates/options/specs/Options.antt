@@ -103,8 +103,9 @@ abbrev pub going_on : {A : Type 0} → ℕ → Result A Reason → (A → Result
 going_on place (Ok x) later = later x
 going_on place (Err e) later = Err (record { place = place; reason = e })
 
--- the values that the words from a place on give to the command, where some are given already. The flag is the one whose
--- value comes next, if there is one: else a word is an option, or it is plain. Behind the last word no value may be missing.
+-- the values that the words from a place on give to the command, where some are given already. The flag is the one
+-- whose value comes next, if there is one: else a word is an option, or it is plain. Behind the last word no value may
+-- be missing.
 abbrev pub given_from : Command → ℕ → Given → Option Flag → List (List ℕ) → Result Given Fault
 given_from k place g None [] = Ok g
 given_from k place g (Some f) [] = Err (record { place = place; reason = NoValue f })

@@ -1,5 +1,6 @@
-// Worked cases of planning: each row of the table has a universe, a goal and how many places the list has, and the program
-// prints what the planner answers and whether it left the rest of the list. Its expected output is made by another
+// Worked cases of planning. Each row of a table has a universe, of which the closing order is
+// printed; or a universe, a goal and how many places the list has, and the program prints what the
+// planner answers and whether it left the rest of the list. Its expected output is made by another
 // implementation of the rules, tools/reference.py.
 #![tactic(auto)]
 
@@ -7,9 +8,12 @@ use console::failure::Failure;
 use console::hex::parse_hex;
 use console::report::read_universe;
 use planner::plan::plan;
+use planning::closing_text::closing_report;
+use planning::plan_lines::plan_lines;
 use rows::show_table;
 use scripts::{lines_report, script_bytes};
 use text::parse_number;
+use universe::held::Universe;
 
 // What every place of the list holds before a script is planned into it.
 const MARK: u32 = 0xa5a5a5a5;
@@ -35,26 +39,33 @@ fn show_script(rt: &HostRuntime, lines: &[u32]) -> anyhow::Result<()> {
     Ok(rt.print(report.or_else(Failure::into_refusal)?)?)
 }
 
-// What the planner answers, and whether the list behind the script is as it was.
-fn show_plan(rt: &HostRuntime, universe: &[u8], goal: &[u8], room: usize) -> anyhow::Result<()> {
-    let universe = match read_universe(rt.alloc(), universe) {
-        Ok(universe) => universe,
-        Err(failure) => return Ok(rt.print(failure.into_refusal()?)?),
-    };
+// Whether planning into a list leaves what is behind the script as it was, or all on a refusal.
+fn show_rest(
+    rt: &HostRuntime,
+    universe: &Universe,
+    goal: &[u8],
+    room: usize,
+) -> anyhow::Result<()> {
     let mut list = vec![in rt.alloc(); MARK; room]?;
-    let written = match plan(&universe, goal, &mut list) {
-        Ok(count) => {
-            show_script(rt, list.get(..count).unwrap_or(&[]))?;
-            count
-        }
-        Err(refusal) => {
-            println!(rt; "refused {refusal}")?;
-            0
-        }
-    };
+    let written = plan(universe, goal, &mut list).unwrap_or(0);
     let is_unchanged = list.iter().skip(written).all(|line| *line == MARK);
     let rest = if is_unchanged { "unchanged" } else { "changed" };
     Ok(println!(rt; "rest {rest}")?)
+}
+
+// The script or the refusal, and what planning leaves of a list of so many places.
+fn show_plan(rt: &HostRuntime, universe: &[u8], goal: &[u8], room: usize) -> anyhow::Result<()> {
+    match plan_lines(rt.alloc(), universe, goal, room) {
+        Ok(lines) => show_script(rt, &lines)?,
+        Err(failure) => rt.print(failure.into_refusal()?)?,
+    }
+    match read_universe(rt.alloc(), universe) {
+        Ok(universe) => show_rest(rt, &universe, goal, room),
+        Err(failure) => {
+            failure.into_refusal()?;
+            Ok(())
+        }
+    }
 }
 
 // The bytes that a word writes in hexadecimal digits; a dash writes none.
@@ -69,7 +80,16 @@ fn word_bytes(rt: &HostRuntime, word: &str) -> anyhow::Result<Option<Vec<u8>>> {
     }
 }
 
-// One row: universe, goal and the number of places, with blanks between them.
+// One row of closing orders: a universe.
+fn show_closing(rt: &HostRuntime, row: &str) -> anyhow::Result<()> {
+    let Some(universe) = word_bytes(rt, row)? else {
+        return Ok(println!(rt; "a row with no digits")?);
+    };
+    let report = closing_report(rt.alloc(), &universe);
+    Ok(rt.print(report.or_else(Failure::into_refusal)?)?)
+}
+
+// One row of plans: universe, goal and the number of places, with blanks between them.
 fn show_row(rt: &HostRuntime, row: &str) -> anyhow::Result<()> {
     let mut words = row.split(' ');
     let (Some(universe), Some(goal), Some(room)) = (words.next(), words.next(), words.next()) else {
@@ -86,5 +106,6 @@ fn show_row(rt: &HostRuntime, row: &str) -> anyhow::Result<()> {
 }
 
 fn main(rt: HostRuntime) -> anyhow::Result<()> {
+    show_table(&rt, "closings", |row| show_closing(&rt, row))?;
     show_table(&rt, "plans", |row| show_row(&rt, row))
 }

@@ -24,13 +24,6 @@ use Rattle.planner.specs.Held.{PathFits, states_of_path}
 pub pair_or_first : (l : List Pair) (k : ℕ) → unwrap_or (slice_get l k) (pair 0 0) ≡ pair_at l k
 pair_or_first l k = unwrap_or-slice_get l k (pair 0 0)
 
--- what is written before a place stands in front of what is from that place on
-pub front_filled : {X : Type 0} (xs : List X) (i : ℕ) (x : X) → 0 < i → i ≤ length xs →
-    drop (i - 1) (set xs (i - 1) x) ≡ x ∷ drop i xs
-front_filled xs i x low within =
-    let next : i - 1 + 1 ≡ i = omega arith in
-    drop-set xs (i - 1) x (omega arith) ∙ ap (λ k. x ∷ drop k xs) next
-
 -- the universe of a kept closing order is valid, and its pairs are closed
 pub valid_order : (o : ClosingOrder) → Valid (universe_in_order o)
 valid_order o = (sound o.universe.tables o.universe.sound).valid
@@ -74,7 +67,8 @@ module _ (u : Universe) (l : List Pair) (h : Pair) where
       climb_lower : rank_of l (pair_at l (parent_rank u l at)) < rank_of l at
       climb_lower = omega (arith, parent_low, c.once (parent_rank u l at) (omega (arith, parent_low, rank_low l at k.member)))
 
--- in a kept closing order the pair `at` is reached: it is listed, and the states of the path p lead from it to the pair h
+-- in a kept closing order the pair `at` is reached: it is listed, and the states of the path p lead from it to the pair
+-- h
 pub record Climb (o : ClosingOrder) (h : Pair) (p : Path) (at : Pair) : Type 0 where
   pub fits : PathFits p
   pub climbed : Climbed (universe_in_order o) (pairs_in_order o) h (states_of_path p) at

@@ -29,7 +29,8 @@ use Rattle.plans.specs.Needs.{path}
 use Rattle.plans.specs.Lists.{listed, lists_below, pair_at, rank_of, same_pair}
 use Rattle.planner.specs.declared.writing.Link.{Link}
 use Rattle.planner.specs.declared.writing.Link.TheVariants.{Made, Ended}
-use Rattle.planner.specs.Writing.{Planned, Wrote, linked, links, plan_on}
+use Rattle.planner.specs.Writing.{PlanFits, Wrote, linked, links, plan_on}
+use Rattle.planner.proofs.Climbing.{closed_order, valid_order}
 use Rattle.planner.proofs.Placing.{wrote_more, wrote_none, wrote_then}
 
 -- a number is at most the length of the list
@@ -103,12 +104,12 @@ module _ (u : Universe) (s : Plan) (z : ℕ) (rs : List ℕ) (xs : List ℕ) (j 
   walk_ends i q {ys} {m} past walked = walked ys m (rw (drop_all i rs past) (wrote_none ys m))
 
 -- the pair of an instance is listed, and the numbers of its create and its changes are small
-module _ (o : ClosingOrder) (ns : List Pair) (suppliers : List ℕ) (plan : Planned o ns suppliers) where
-  valid : Valid (universe_in_order o)
-  valid = (sound o.universe.tables o.universe.sound).valid
+module _ (o : ClosingOrder) (ns : List Pair) (suppliers : List ℕ) (plan : PlanFits o ns suppliers) where
+  abbrev valid : Valid (universe_in_order o)
+  valid = valid_order o
 
-  closed : Closed (universe_in_order o) (pairs_in_order o)
-  closed = closing_closed (universe_in_order o) valid
+  abbrev closed : Closed (universe_in_order o) (pairs_in_order o)
+  closed = closed_order o
 
   pair_listed : (z : ℕ) → z < length ns → listed (pairs_in_order o) (pair_at ns z) ≡ true
   pair_listed z low = plan.sub (pair_at ns z) (listed_at ns z low)

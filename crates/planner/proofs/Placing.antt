@@ -84,8 +84,8 @@ written_placed xs j (o ∷ os) fits counted =
     rw (next, rest, end, take_more_set xs j x (omega arith), append_assoc)
     (ap (λ t. take j xs ++ (x ∷ (map line_of os ++ t))) (drop-set-lt (j + 1 + length os) xs j x (omega arith)))
 
--- lines from the head of a list on: the place behind them is their number, and where the list has room for them they stand
--- at its head, before what stood behind them
+-- lines from the head of a list on: the place behind them is their number, and where the list has room for them they
+-- stand at its head, before what stood behind them
 module _ {xs zs : List ℕ} {n : ℕ} {os : List Order} (w : Wrote xs 0 os zs n) (counted : length os ≤ 2 ^ 64 - 1) where
   pub wrote_length : n ≡ length os
   wrote_length = omega (arith, w.place, place_counted 0 os (omega arith))

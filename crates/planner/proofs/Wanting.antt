@@ -1,4 +1,5 @@
--- The needed pairs, found from the highest rank down, with the set of the ports that their paths require. Assumes nothing.
+-- The needed pairs, found from the highest rank down, with the set of the ports that their paths require. Assumes
+-- nothing.
 use Rattle.std.proofs.Common.{List, [], ◌∷◌, ◌≡◌, ℕ, zero, suc, ◌+◌, ◌-◌, ◌<◌, ◌≤◌, Bool, true, false, cond, ◌&&◌, ◌||◌, eqb, drop, get_or, length, take, refl, sym, ap, subst, ◌∙◌, add-one, arith}
 use lib.Bits.{bit_or}
 use mathlib.Core.Bool.{false≢true}

@@ -48,8 +48,8 @@ pub record RefusedExactly (u : Universe) (bs : List ℕ) (r : Result ℕ PlanRef
   pub only : r ≡ Err OutOfReach → IsGoal u bs × Unreached u (goal_of bs)
   pub always : IsGoal u bs → Unreached u (goal_of bs) → r ≡ Err OutOfReach
 
--- when it is done, the bytes are a goal, and the first lines of the list, as many as it answers, tell a run that reaches the
--- goal
+-- when it is done, the bytes are a goal, and the first lines of the list, as many as it answers, tell a run that
+-- reaches the goal
 pub record WritesRun (u : Universe) (bs : List ℕ) (r : Result ℕ PlanRefusal) (xs : List ℕ) : Type 0 where
   pub goal : (n : ℕ) → r ≡ Ok n → IsGoal u bs
   pub run : (n : ℕ) → r ≡ Ok n → (os : List Order) × (map decoded (take n xs) ≡ map Ok os) × Reaches u os (goal_of bs)

@@ -18,7 +18,7 @@ use Rattle.planner.specs.declared.writing.Link.TheVariants.{Made, Ended}
 abbrev pub line_of : Order → ℕ
 line_of o = line_of_fields (fields_of_order o)
 
--- the place behind a place; the last that can be counted is its own
+-- one place more, but at most 2 ^ 64 - 1
 abbrev pub behind : ℕ → ℕ
 behind k = min (k + 1) (2 ^ 64 - 1)
 
@@ -42,11 +42,11 @@ abbrev pub linked : Link → Binding → Order
 linked Made = Bind
 linked Ended = Unbind
 
--- in port order, for each port below n in the set after and not in the set before: the order for the binding to its
+-- in port order, for each port below n in the set present and not in the set absent: the order for the binding to its
 -- supplier
 abbrev pub links : ℕ → Link → (ℕ → ℕ) → ℕ → ℕ → ℕ → List Order
-links n link supplier z before after =
-    lists_below (λ p. order_if (has 32 after p && not (has 32 before p)) (linked link (binding p (supplier p) z))) n
+links n link supplier z absent present =
+    lists_below (λ p. order_if (has 32 present p && not (has 32 absent p)) (linked link (binding p (supplier p) z))) n
 
 -- the plan for the pairs ns of the closing order
 abbrev pub plan_on : ClosingOrder → List Pair → Plan
@@ -56,9 +56,9 @@ plan_on o ns = plan_for (universe_in_order o) (pairs_in_order o) ns
 abbrev pub AllListed : List Pair → List Pair → Type 0
 AllListed l ns = (h : Pair) → listed ns h ≡ true → listed l h ≡ true
 
--- the pairs ns are listed, there are no more of them than pairs can be, and the suppliers, by port, are those of the plan for
--- them
-pub record Planned (o : ClosingOrder) (ns : List Pair) (suppliers : List ℕ) : Type 0 where
+-- the pairs ns are listed, there are no more of them than pairs can be, and the suppliers, by port, are those of the
+-- plan for them
+pub record PlanFits (o : ClosingOrder) (ns : List Pair) (suppliers : List ℕ) : Type 0 where
   pub few : length ns ≤ 128
   pub sub : AllListed (pairs_in_order o) ns
   pub supplied : (p : ℕ) → p < 32 → slice_index suppliers p ≡ (plan_on o ns).supplier p

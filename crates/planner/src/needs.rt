@@ -30,7 +30,6 @@ impl Needed {
     }
 
     // Puts a pair in front of the others.
-    #[tactic(auto, using(crate::proofs::Climbing::front_filled))]
     fn push_front(&mut self, pair: Pair)
         requires fits { NeededFits self.now }
         requires room { 0 < self.now.from }
@@ -84,12 +83,12 @@ pub(crate) fn needed_pairs(order: &ClosingOrder, goal: &[u8]) -> Needed
         pairs: [FIRST_PAIR; 128],
         from: 128,
     };
-    let mut wanted = 0;
+    let mut required = 0;
     for rank in (0..order.len()).rev() {
-        if is_needed(order, goal, wanted, rank) {
+        if is_needed(order, goal, required, rank) {
             let pair = pair_at(order, rank);
             needed.push_front(pair);
-            wanted |= path_ports(order, pair);
+            required |= path_ports(order, pair);
         }
     }
     needed

@@ -36,7 +36,6 @@ impl Path {
     }
 
     // Puts a state in front of the others.
-    #[tactic(auto, using(crate::proofs::Climbing::front_filled))]
     fn push_front(&mut self, state: u8)
         requires fits { PathFits self.now }
         requires room { 0 < self.now.from }

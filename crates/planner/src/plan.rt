@@ -13,6 +13,9 @@ use crate::writing::Plan;
 use closing::order::ClosingOrder;
 use universe::held::Universe;
 
+// No script has more lines.
+pub const MOST_LINES: usize = 11136;
+
 // Writes the script for the goal into the list, and answers how many lines it has; refused where
 // the list has fewer places.
 #[tactic(auto, unfolding(plans::specs::Script::script))]
@@ -38,9 +41,10 @@ fn write_plan(universe: &Universe, goal: &[u8], lines: &mut [u32]) -> Result<usi
     write_script(&order, goal, lines)
 }
 
-// Plans the goal, a line in each byte, into the list: writes the script's lines, leaves what is behind them, and answers how
-// many they are. On a refusal the list stays as it was. A goal is refused as out of reach exactly if no run reaches it; what
-// is written tells a run that does.
+// Plans the goal, a line in each byte, into the list: writes the script's lines, leaves what is
+// behind them, and answers how many they are. On a refusal the list stays as it was. A goal that
+// meets no earlier refusal is refused as out of reach exactly if no run reaches it; what is
+// written tells a run that does.
 #[tactic(auto, using(crate::proofs::Promising::refused_held, crate::proofs::Promising::run_held))]
 pub fn plan(universe: &Universe, goal: &[u8], lines: &mut [u32]) -> Result<usize, PlanRefusal>
     ensures answer { result ≡ plan_answer (planned (universe_in universe.now) goal.now) (length lines.old) }

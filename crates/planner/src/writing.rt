@@ -9,7 +9,7 @@ ghost use Rattle.universe.specs.Tables.{entry_at};
 ghost use Rattle.plans.specs.Lists.{pair_at, rank_of, same_pair};
 ghost use Rattle.plans.specs.Plan.{binding, build, port_orders, script_of, step, walk};
 ghost use Rattle.closing.specs.Order.{pairs_in_order};
-ghost use Rattle.planner.specs.Writing.{AllListed, Planned, Wrote, line_of, linked, links, plan_on};
+ghost use Rattle.planner.specs.Writing.{AllListed, PlanFits, Wrote, line_of, linked, links, plan_on};
 ghost use Rattle.planner.specs.Planning.{list_after, plan_answer};
 
 use crate::path::{pair_at, path_of};
@@ -29,7 +29,7 @@ pub(crate) struct Plan<'a> {
     order: &'a ClosingOrder,
     pairs: &'a [Pair],
     suppliers: [u8; 32],
-    ghost planned: { Planned order.now pairs.now suppliers },
+    ghost planned: { PlanFits order.now pairs.now suppliers },
 }
 
 // The two orders that a binding is made into. An enum and no closure, since clauses speak of it.
@@ -85,11 +85,11 @@ fn suppliers_of(order: &ClosingOrder, pairs: &[Pair]) -> [u8; 32]
     array::from_fn(|port| supplier_of(order, pairs, port as u32))
 }
 
-// Whether the port is in the set `after` and not in the set `before`.
-fn is_new(before: u32, after: u32, port: u32) -> bool
-    ensures { result ≡ (has 32 after port && not (has 32 before port)) }
+// Whether the port is in the set `present` and not in the set `absent`.
+fn is_new(absent: u32, present: u32, port: u32) -> bool
+    ensures { result ≡ (has 32 present port && not (has 32 absent port)) }
 {
-    after.has(port) && !before.has(port)
+    present.has(port) && !absent.has(port)
 }
 
 // The order to create an instance of a type.
@@ -132,6 +132,7 @@ fn put(lines: &mut [u32], place: usize, order: Order) -> usize
     place.saturating_add(1)
 }
 
+// What writes lines answers the place behind them.
 impl<'a> Plan<'a> {
     ghost use Rattle.planner.specs.Scripts.{plan_of, universe_planned};
 
@@ -205,7 +206,7 @@ impl<'a> Plan<'a> {
         put(lines, place, link.order(self.binding(port, number)))
     }
 
-    // Writes, in port order, for each port that is in the set `after` and not in the set `before`,
+    // Writes, in port order, for each port that is in the set `present` and not in the set `absent`,
     // the order for the binding to its supplier.
     fn write_new(
         &self,
@@ -213,37 +214,37 @@ impl<'a> Plan<'a> {
         place: usize,
         link: Link,
         number: u8,
-        before: u32,
-        after: u32,
+        absent: u32,
+        present: u32,
     ) -> usize
-        ensures { Wrote lines.old place (links (universe_planned self.now).ports link (plan_of self.now).supplier number before after) lines.new result }
+        ensures { Wrote lines.old place (links (universe_planned self.now).ports link (plan_of self.now).supplier number absent present) lines.new result }
     {
         let mut place = place;
         for port in 0..u32::from(self.order.universe().ports()) {
-            if is_new(before, after, port) {
+            if is_new(absent, present, port) {
                 place = self.write_link(lines, place, link, number, port);
             }
         }
         place
     }
 
-    // Writes, in port order, for each port that the instance requires in one state and not in the
-    // state before, the order for the binding to its supplier.
+    // Writes, in port order, for each port that the instance requires in the state `present` and not in
+    // the state `absent`, the order for the binding to its supplier.
     fn write_links(
         &self,
         lines: &mut [u32],
         place: usize,
         link: Link,
         number: u8,
-        before: u8,
-        after: u8,
+        absent: u8,
+        present: u8,
     ) -> usize
         requires { number < length self.now.pairs.now }
-        ensures { Wrote lines.old place (port_orders (linked link) (universe_planned self.now) (plan_of self.now) number before after) lines.new result }
+        ensures { Wrote lines.old place (port_orders (linked link) (universe_planned self.now) (plan_of self.now) number absent present) lines.new result }
     {
-        let before = self.required(number, before);
-        let after = self.required(number, after);
-        self.write_new(lines, place, link, number, before, after)
+        let absent = self.required(number, absent);
+        let present = self.required(number, present);
+        self.write_new(lines, place, link, number, absent, present)
     }
 
     // Writes the step of the instance from one state to another: binds, the change, unbinds.
@@ -285,7 +286,6 @@ impl<'a> Plan<'a> {
     }
 
     // Writes the whole script, as far as the list has places, and answers how many lines it has.
-    // Each of these functions answers the place behind the lines that it writes.
     pub(crate) fn write(&self, lines: &mut [u32]) -> usize
         ensures { Wrote lines.old 0 (script_of (universe_planned self.now) (plan_of self.now)) lines.new result }
     {

@@ -8,12 +8,9 @@ ghost use Rattle.planning.specs.Planning.{lines_in, planned_lines};
 
 use console::failure::Failure;
 use console::report::{read_universe, refused_line};
-use planner::plan::plan;
+use planner::plan::{MOST_LINES, plan};
 use std::alloc::Global;
 use universe::held::Universe;
-
-// The most lines that a script has.
-pub const MOST_LINES: usize = 11136;
 
 // The lines of the script for the goal, in a list of so many places; or the refusal.
 fn lines_for(
@@ -34,8 +31,8 @@ fn lines_for(
     }
 }
 
-// The lines of the script for the goal in the universe of a packed file, in a list of so many places; or the refusal of the
-// file or of the goal.
+// The lines of the script for the goal in the universe of a packed file, in a list of so many
+// places; or the refusal of the file or of the goal.
 #[tactic(auto, using(crate::proofs::Rooms::told_lines))]
 pub fn plan_lines(
     alloc: Global,

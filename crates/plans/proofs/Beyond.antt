@@ -12,7 +12,7 @@ use Rattle.model.specs.Orders.{Legal, result_of}
 use Rattle.model.specs.Runs.{Run, RunsFrom, after}
 use Rattle.model.proofs.Formed.{empty_law, formed_law}
 use Rattle.model.proofs.Results.{bind_inst, change_bound, change_off, change_to, create_at, create_off, delete_at, delete_off, passes_some, unbind_inst}
-use Rattle.plans.specs.Closing.{closing, leads, provides}
+use Rattle.plans.specs.Closing.{closing, follows, provides}
 use Rattle.plans.specs.Lists.{listed}
 use Rattle.plans.proofs.Closed.{Closed}
 use Rattle.plans.proofs.Closings.{closing_closed}
@@ -61,7 +61,7 @@ module _ (u : Universe) (l : List Pair) where
     changed_listed c z q g wf i at next free =
         let n = ok.next g.kind g.state q next in
         closed.full (pair g.kind q) (n.0.0, n.1)
-        (any_in l (leads u (pair g.kind q)) g (i z g at)
+        (any_in l (follows u (pair g.kind q)) g (i z g at)
         (and_from (eqb g.kind g.kind) _ (eq-eqb g.kind g.kind refl) next))
         (λ p r. elim (cases_Bool (list_any (provides u p) l)) [
           | inl there ↦ there

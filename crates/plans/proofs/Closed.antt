@@ -5,7 +5,7 @@ use Rattle.model.specs.declared.pair.Pair.{Pair}
 use Rattle.model.specs.Config.{pair}
 use Rattle.model.specs.Universe.{Universe, IsPair}
 use Rattle.plans.specs.Lists.{listed, pair_at, rank_of}
-use Rattle.plans.specs.Closing.{leads, pair_count, parent_rank, provides, supplier_rank}
+use Rattle.plans.specs.Closing.{follows, pair_count, parent_rank, provides, supplier_rank}
 
 pub record Closed (u : Universe) (l : List Pair) : Type 0 where
   -- only pairs of the universe are listed, and none twice
@@ -18,5 +18,5 @@ pub record Closed (u : Universe) (l : List Pair) : Type 0 where
   pub parent : (h : Pair) → listed l h ≡ true → h.state ≢ 0 → parent_rank u l h < rank_of l h
   pub supplier : (h : Pair) (p : ℕ) → listed l h ≡ true → u.requires h.kind h.state p ≡ true → supplier_rank u l p < rank_of l h
   -- a pair for which all that it needs is listed is listed too
-  pub full : (h : Pair) → IsPair u h.kind h.state → list_any (leads u h) l ≡ true →
+  pub full : (h : Pair) → IsPair u h.kind h.state → list_any (follows u h) l ≡ true →
       ((p : ℕ) → u.requires h.kind h.state p ≡ true → list_any (provides u p) l ≡ true) → listed l h ≡ true

@@ -10,7 +10,7 @@ use Rattle.model.specs.Universe.{Universe, IsPair, Valid}
 use Rattle.model.proofs.Searches.{any_found, any_none_of, first_no, first_some, refuted}
 use Rattle.model.proofs.Sums.{sum_le, sum_more, sum_most, sum_none, sum_same}
 use Rattle.plans.specs.Lists.{listed, lists_below, pair_at, rank_of, same_pair, some_if}
-use Rattle.plans.specs.Closing.{addable, grown, grown_with, lacks, leads, next_pair, pair_count, parent_rank, provides, supplier_rank}
+use Rattle.plans.specs.Closing.{addable, grown, grown_with, lacks, follows, next_pair, pair_count, parent_rank, provides, supplier_rank}
 use Rattle.plans.proofs.Ranks.{any_first, any_kept, any_pushed, at_new, at_pushed, first_kept, length_pushed, listed_new, listed_pushed, rank_low, rank_new, same_equal}
 
 -- what a test finds passes it
@@ -28,7 +28,7 @@ AllProvided u l h = (p : ℕ) → u.requires h.kind h.state p ≡ true → list_
 
 -- all that the pair needs is listed: a pair that has it as a successor, and those providers
 pub record Ready (u : Universe) (l : List Pair) (h : Pair) : Type 0 where
-  pub lead : list_any (leads u h) l ≡ true
+  pub lead : list_any (follows u h) l ≡ true
   pub ports : AllProvided u l h
 
 module _ (u : Universe) (l : List Pair) where
@@ -55,7 +55,7 @@ module _ (u : Universe) (l : List Pair) where
   unfolding addable
   addable_ready ok h e =
       let v = and_parts (not (listed l h)) _ e in
-      let w = and_parts (list_any (leads u h) l) _ v.1 in
+      let w = and_parts (list_any (follows u h) l) _ v.1 in
       (not-true _ v.0, record { lead = w.0; ports = not_lacking ok h (not-true _ w.1) })
 
   -- and that is enough
@@ -148,18 +148,18 @@ module _ (u : Universe) where
         supplier = λ h p e r. absurd (false≢true e);
       }
 
-  -- a sound list stays sound with a new pair of the universe behind it, if all that the pair needs is listed; with state 0
-  -- it needs no parent
+  -- a sound list stays sound with a new pair of the universe behind it, if all that the pair needs is listed; with
+  -- state 0 it needs no parent
   pub sound_pushed : (l : List Pair) (h : Pair) → Sound u l → IsPair u h.kind h.state → listed l h ≡ false →
-      (h.state ≢ 0 → list_any (leads u h) l ≡ true) → AllProvided u l h → Sound u (l ++ (h ∷ []))
+      (h.state ≢ 0 → list_any (follows u h) l ≡ true) → AllProvided u l h → Sound u (l ++ (h ∷ []))
   sound_pushed l h s is out lead ports =
       record {
         pairs = each (λ g. IsPair u g.kind g.state) s.pairs is;
         once = once;
         count = omega (arith, length_pushed l h, listed_count_pushed l h u is out, s.count);
-        parent = each (λ g. g.state ≢ 0 → Before m (leads u g) g)
-            (λ g e n. before_kept l h (leads u g) g e (s.parent g e n))
-            (λ n. before_new l h (leads u h) out (lead n));
+        parent = each (λ g. g.state ≢ 0 → Before m (follows u g) g)
+            (λ g e n. before_kept l h (follows u g) g e (s.parent g e n))
+            (λ n. before_new l h (follows u h) out (lead n));
         supplier = λ g p. each (λ g. u.requires g.kind g.state p ≡ true → Before m (provides u p) g)
             (λ g e r. before_kept l h (provides u p) g e (s.supplier g p e r))
             (λ r. before_new l h (provides u p) out (ports p r)) g;

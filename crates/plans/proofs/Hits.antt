@@ -3,6 +3,7 @@ use Rattle.std.proofs.Common.{◌≡◌, ℕ, zero, suc, ◌+◌, ◌<◌, ◌�
 use Rattle.std.proofs.lemmas.Bool.{cases_lt, eq-eqb, eqb-true, ne_eqb, or_cases}
 use Rattle.model.specs.Search.{any, sum_below, one}
 use Rattle.model.proofs.Searches.{any_found, any_some}
+use Rattle.plans.proofs.Counts.{one_either}
 use Rattle.model.proofs.Sums.{sum_more, sum_none, sum_same_below}
 
 -- a number below n that passes the first of two tests or the second counts for one of them
@@ -14,10 +15,6 @@ sum_either f g h (suc n) e =
     let before = sum_either f g h n (λ y l. e y (omega arith)) in
     let here = one_either (f n) (g n) (h n) (e n (omega arith)) in
     omega arith
-  where
-    one_either : (a b c : Bool) → (a ≡ true → (b ≡ true) ⊎ (c ≡ true)) → one a ≤ one b + one c
-    one_either false b c w = omega arith
-    one_either true b c w = elim (w refl) [ inl p ↦ rw p (omega arith) | inr p ↦ rw p (omega arith) ]
 
 -- one number counts once at most
 sum_single : (k n : ℕ) → sum_below (λ y. one (eqb k y)) n ≤ 1

@@ -13,7 +13,7 @@ use Rattle.plans.specs.Closing.{closing}
 use Rattle.plans.specs.Plan.{Works}
 use Rattle.plans.specs.Goals.{Met, Reaches}
 use Rattle.plans.specs.Script.{needed_pairs, plan_for, script}
-use Rattle.plans.specs.Laws.{Attainable, ClosingLaw, EndLaw, InReach, LinesLaw, LowerLaw, NeededLaw, ReachLaw, SizeLaw, deployed}
+use Rattle.plans.specs.Laws.{Attainable, ClosingLaw, EndLaw, InReach, LinesLaw, LowerLaw, NeededLaw, ReachLaw, SizeLaw, WorkingLaw, deployed}
 use Rattle.plans.proofs.Closed.{Closed}
 use Rattle.plans.proofs.Ranks.{listed_at}
 use Rattle.std.proofs.lemmas.List.Sums.{list_all-from_AllPass}
@@ -95,6 +95,9 @@ module _ (u : Universe) (goal : List Pair) (ok : Valid u) where
 attained : (u : Universe) (ok : Valid u) (h : Pair) → listed (closing u) h ≡ true → Attainable u h
 attained u ok h e =
     (script u (h ∷ []), script_is_run u (h ∷ []) ok, meets u (h ∷ []) ok (and_from _ true e refl) 0 h (omega arith))
+
+pub working_law : WorkingLaw
+working_law u s ok w = script_runs u s ok w
 
 pub closing_law : ClosingLaw
 closing_law u ok h = (attained u ok h, λ a. none_beyond u ok a.0 a.1 a.2.0 h a.2.1)

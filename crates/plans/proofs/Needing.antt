@@ -238,8 +238,8 @@ pub record Supplies (u : Universe) (ns : List Pair) (h : Pair) (p : ℕ) (g : Pa
   pub gives : provides u p g ≡ true
   pub before : rank_of ns g < rank_of ns h
 
--- the pairs ns are listed ones, none stands twice, and the supplier of a port that is required on the path of one of them is
--- one before it
+-- the pairs ns are listed ones, none stands twice, and the supplier of a port that is required on the path of one of
+-- them is one before it
 pub record Sufficient (u : Universe) (l ns : List Pair) : Type 0 where
   pub sub : (h : Pair) → listed ns h ≡ true → listed l h ≡ true
   pub once : Once ns

@@ -9,7 +9,7 @@ use Rattle.model.specs.declared.pair.Pair.{Pair}
 use Rattle.model.specs.Config.{pair}
 use Rattle.model.specs.Universe.{Universe, Valid}
 use Rattle.plans.specs.Lists.{listed, pair_at, rank_of}
-use Rattle.plans.specs.Closing.{leads, parent_rank, supplier_rank}
+use Rattle.plans.specs.Closing.{follows, parent_rank, supplier_rank}
 use Rattle.plans.specs.Needs.{path_within, path, path_requires}
 use Rattle.plans.specs.Plan.{Plan, Passable, Supplied, last_state}
 use Rattle.model.specs.Search.{one, sum_below}
@@ -18,18 +18,18 @@ use Rattle.model.proofs.Sums.{sum_more, sum_most, sum_none}
 use Rattle.plans.proofs.Closed.{Closed}
 use Rattle.plans.proofs.Ranks.{first_passes, listed_at, rank_low}
 
--- the states lead to the pair: there are none where its state is 0, else they lead to a listed pair before it, which has it
--- as a successor, and its state is the last
+-- the states lead to the pair: there are none where its state is 0, else they lead to a listed pair before it, which
+-- has it as a successor, and its state is the last
 pub data Way (u : Universe) (l : List Pair) : List ℕ → Pair → Type 0 where
   start : {h : Pair} → listed l h ≡ true → h.state ≡ 0 → Way u l [] h
-  onward : {h : Pair} {rs : List ℕ} (g : Pair) → Way u l rs g → listed l h ≡ true → h.state ≢ 0 → leads u h g ≡ true →
+  onward : {h : Pair} {rs : List ℕ} (g : Pair) → Way u l rs g → listed l h ≡ true → h.state ≢ 0 → follows u h g ≡ true →
       rank_of l g < rank_of l h → Way u l (rs ++ (h.state ∷ [])) h
 
 module _ (u : Universe) (l : List Pair) (c : Closed u l) where
   -- g is a listed pair before h, and has it as a successor
   pub record Parent (h g : Pair) : Type 0 where
     pub member : listed l g ≡ true
-    pub next : leads u h g ≡ true
+    pub next : follows u h g ≡ true
     pub before : rank_of l g < rank_of l h
 
   -- a listed pair with another state than 0 has a parent
@@ -41,7 +41,7 @@ module _ (u : Universe) (l : List Pair) (c : Closed u l) where
       let same = c.once (parent_rank u l h) under in
       record {
         member = listed_at l (parent_rank u l h) under;
-        next = first_passes (leads u h) l under;
+        next = first_passes (follows u h) l under;
         before = omega arith;
       }
 
@@ -103,7 +103,7 @@ module _ (u : Universe) (l : List Pair) where
   way_last (start e z) = sym z
   way_last (onward {h} {rs = rs} g w e ne is low) = last_pushed 0 rs h.state
 
-  lead_kind : (g h : Pair) → leads u h g ≡ true → g.kind ≡ h.kind
+  lead_kind : (g h : Pair) → follows u h g ≡ true → g.kind ≡ h.kind
   lead_kind g h is = eqb-true g.kind h.kind (and_parts (eqb g.kind h.kind) (u.next g.kind g.state h.state) is).0
 
   -- q is another state than 0 that passes, and is that of a listed pair of the type t, of rank n at most

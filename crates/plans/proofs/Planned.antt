@@ -70,8 +70,8 @@ module _ (u : Universe) (l : List Pair) (c : Closed u l) (ns : List Pair) (n : S
         | inr ge ↦ rw (le-ltb z 0 (omega arith), le-ltb z (0 + length ns) (omega arith)) (sym (slice_get_past ns z ge))
       ]
 
-  -- and the bindings of the instances from number 0 on, of each at the ports that its pair requires and to their suppliers,
-  -- are those of the pairs
+  -- and the bindings of the instances from number 0 on, of each at the ports that its pair requires and to their
+  -- suppliers, are those of the pairs
   pub plan_bindings : (p x y : ℕ) →
       (x == rank_of ns (pair_at l (supplier_rank u l p)) &&
       (not (nat_lt y 0) && required u p (built (plan_for u l ns) (0 + length ns) y)))

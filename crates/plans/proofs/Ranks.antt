@@ -1,5 +1,5 @@
--- What searches in lists of pairs tell: which pairs are listed, at which rank, and which is the first that passes. Assumes
--- nothing.
+-- What searches in lists of pairs tell: which pairs are listed, at which rank, and which is the first that passes.
+-- Assumes nothing.
 use Rattle.std.proofs.Common.{List, [], ◌∷◌, ◌++◌, ◌≡◌, ℕ, zero, suc, ◌+◌, ◌<◌, ◌≤◌, Bool, true, false, ◌||◌, eqb, length, ◌⊎◌, refl, sym, ap, ◌∙◌, inl, inr, arith}
 use mathlib.Core.Bool.{false≢true, or-false}
 use Rattle.std.specs.List.{list_any, position_or_len}
@@ -75,12 +75,9 @@ module _ (l : List Pair) where
   pub rank_once : (g h : Pair) → listed l g ≡ true → listed l h ≡ true → rank_of l g ≡ rank_of l h → g ≡ h
   rank_once g h p q e = sym (listed_rank g p) ∙ ap (pair_at l) e ∙ listed_rank h q
 
-  -- a listed pair that passes makes a search succeed, and stands at or behind the first that passes
+  -- a listed pair that passes makes a search succeed
   pub any_in : (f : Pair → Bool) (h : Pair) → listed l h ≡ true → f h ≡ true → list_any f l ≡ true
   any_in f h p e = any_at f l (rank_of l h) (rank_low h p) (ap f (listed_rank h p) ∙ e)
-
-  pub first_in : (f : Pair → Bool) (h : Pair) → listed l h ≡ true → f h ≡ true → position_or_len f l ≤ rank_of l h
-  first_in f h p e = first_under f l (rank_of l h) (rank_low h p) (ap f (listed_rank h p) ∙ e)
 
   -- what a search finds is a listed pair that passes
   pub any_found_in : (f : Pair → Bool) → list_any f l ≡ true → (h : Pair) × (listed l h ≡ true) × (f h ≡ true)

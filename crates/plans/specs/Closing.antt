@@ -7,9 +7,9 @@ use Rattle.model.specs.Search.{any, find_first, sum_below}
 use Rattle.model.specs.Universe.{Universe}
 use Rattle.plans.specs.Lists.{listed, lists_below, some_if}
 
--- the pair g has the pair h, of the same type, as a successor
-abbrev pub leads : Universe → Pair → Pair → Bool
-leads u h g = g.kind == h.kind && u.next g.kind g.state h.state
+-- the pair h follows the pair g: g has it, of the same type, as a successor
+abbrev pub follows : Universe → Pair → Pair → Bool
+follows u h g = g.kind == h.kind && u.next g.kind g.state h.state
 
 -- the pair g provides the port
 abbrev pub provides : Universe → ℕ → Pair → Bool
@@ -21,7 +21,7 @@ lacks u l h = any (λ p. u.requires h.kind h.state p && not (list_any (provides 
 
 -- the pair can be added: it is not listed, a listed pair of its type has it as a successor, and it lacks no port
 unfoldable pub addable : Universe → List Pair → Pair → Bool
-addable u l h = not (listed l h) && (list_any (leads u h) l && not (lacks u l h))
+addable u l h = not (listed l h) && (list_any (follows u h) l && not (lacks u l h))
 
 -- the lowest pair that can be added, by type, then state
 unfoldable pub next_pair : Universe → List Pair → Option Pair
@@ -51,7 +51,7 @@ closing u = grown u (pair_count u) (initial_pairs u)
 
 -- the rank of the parent of an added pair: the lowest that has it as a successor
 abbrev pub parent_rank : Universe → List Pair → Pair → ℕ
-parent_rank u l h = position_or_len (leads u h) l
+parent_rank u l h = position_or_len (follows u h) l
 
 -- the rank of the supplier of a port: the lowest that provides it; the number of listed pairs where none does
 abbrev pub supplier_rank : Universe → List Pair → ℕ → ℕ

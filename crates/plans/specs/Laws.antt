@@ -6,17 +6,23 @@ use Rattle.model.specs.declared.order.Order.{Order}
 use Rattle.model.specs.Universe.{Universe, Valid}
 use Rattle.model.specs.Config.{Config, empty, required}
 use Rattle.model.specs.Counts.{bindings}
-use Rattle.model.specs.Runs.{Run, after}
+use Rattle.model.specs.Runs.{Run, RunsFrom, after}
 use Rattle.lines.specs.Line.{encoded}
 use Rattle.plans.specs.Lists.{listed, pair_at, rank_of}
 use Rattle.plans.specs.Closing.{closing, supplier_rank}
 use Rattle.plans.specs.Needs.{serves}
+use Rattle.plans.specs.Plan.{Plan, Works, script_of}
 use Rattle.plans.specs.Goals.{Attained, Reaches}
 use Rattle.plans.specs.Script.{needed_pairs, script}
 
--- some run ends with an instance in the pair; a run up to any of its places is a run, so this is the same as ever having one
+-- some run ends with an instance in the pair; a run up to any of its places is a run, so this is the same as ever
+-- having one
 abbrev pub Attainable : Universe → Pair → Type 0
 Attainable u h = (os : List Order) × Run u os × Attained (after empty os) h
+
+-- the script of every plan that works is a run from what stands at the outset
+abbrev pub WorkingLaw : Type 0
+WorkingLaw = (u : Universe) (s : Plan) → Valid u → Works u s → RunsFrom u s.outset (script_of u s)
 
 -- the closing order lists a pair exactly if some run ever has an instance in it
 abbrev pub ClosingLaw : Type 0
@@ -44,8 +50,8 @@ NeededLaw =
     ((h : Pair) → (listed (needed_pairs u goal) h ≡ true) ↔ Needed u goal h) ×
     ((j k : ℕ) → j < k → k < length (needed_pairs u goal) → rank_of (closing u) (pair_at (needed_pairs u goal) j) < rank_of (closing u) (pair_at (needed_pairs u goal) k))
 
--- what the script leaves: in each needed pair the instance of its number, and for each port that it requires a binding to the
--- instance of the port's supplier; nothing else
+-- what the script leaves: in each needed pair the instance of its number, and for each port that it requires a binding
+-- to the instance of the port's supplier; nothing else
 abbrev pub deployed : Universe → List Pair → Config
 deployed u goal = record {
   inst = λ z. slice_get (needed_pairs u goal) z;
@@ -61,8 +67,8 @@ LowerLaw =
     (u : Universe) (goal : List Pair) → Valid u →
     (os ps : List Order) → script u goal ≡ os ++ ps → (p x y : ℕ) → (after empty os).bound p x y ≡ true → x < y
 
--- a script for up to 16 pairs has at most 48 instances and 11,136 lines, and at every place of it at most 1,536 bindings stand,
--- among whatever ports and numbers they are counted
+-- a script for up to 16 pairs has at most 48 instances and 11,136 lines, and at every place of it at most 1,536
+-- bindings stand, among whatever ports and numbers they are counted
 abbrev pub SizeLaw : Type 0
 SizeLaw =
     (u : Universe) (goal : List Pair) → Valid u → length goal ≤ 16 →

@@ -7,7 +7,8 @@ use Rattle.model.specs.Universe.{Universe}
 use Rattle.plans.specs.Lists.{listed, pair_at, rank_of}
 use Rattle.plans.specs.Closing.{parent_rank, supplier_rank}
 
--- the path of a pair leads from state 0 over parents to the pair; these are its states behind state 0, the last n at most
+-- the path of a pair leads from state 0 over parents to the pair; these are its states behind state 0, the last n at
+-- most
 unfoldable pub path_within : Universe → List Pair → ℕ → Pair → List ℕ
 path_within u l zero h = []
 path_within u l (suc n) h =
@@ -21,12 +22,12 @@ path u l h = path_within u l (length l) h
 abbrev pub path_requires : Universe → List Pair → Pair → ℕ → Bool
 path_requires u l h p = list_any (λ q. u.requires h.kind q p) (path u l h)
 
--- g is the supplier of a port that some pair on the path of h requires
+-- the listed pair g is the supplier of a port that some pair on the path of h requires
 unfoldable pub serves : Universe → List Pair → Pair → Pair → Bool
 serves u l g h = any (λ p. path_requires u l h p && (supplier_rank u l p == rank_of l g)) u.ports
 
--- of the pairs hs, the last of the order l, those that are needed: each that is in the goal, or that serves a needed one
--- behind it; a supplier always has a lower rank
+-- of the pairs hs, the last of the order l, those that are needed: each that is in the goal, or that serves a needed
+-- one behind it; a supplier always has a lower rank
 unfoldable pub needed_among : Universe → List Pair → List Pair → List Pair → List Pair
 needed_among u l goal [] = []
 needed_among u l goal (h ∷ hs) =

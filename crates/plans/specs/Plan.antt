@@ -30,8 +30,8 @@ binding p x y = record { port = p; provider = x; requirer = y }
 abbrev pub order_if : Bool → Order → List Order
 order_if b o = cond b (o ∷ []) []
 
--- in port order, for the instance z and every port that the state r requires and the state q does not: the order made of
--- the binding to the port's supplier
+-- in port order, for the instance z and every port that the state r requires and the state q does not: the order made
+-- of the binding to the port's supplier
 unfoldable pub port_orders : (Binding → Order) → Universe → Plan → ℕ → ℕ → ℕ → List Order
 port_orders make u s z q r =
     lists_below (λ p. order_if (u.requires (s.kind z) r p && not (u.requires (s.kind z) q p)) (make (binding p (s.supplier p) z))) u.ports
@@ -67,12 +67,14 @@ final s z = pair (s.kind z) (last_state 0 (s.path z))
 abbrev pub built : Plan → ℕ → ℕ → Option Pair
 built s n z = cond (nat_lt z s.first) (s.outset.inst z) (cond (nat_lt z n) (Some (final s z)) None)
 
--- the port is supplied to the instance z: by an instance with a lower number, which provides it once it is built
+-- the port is supplied to the instance z: by an instance with a lower number, which provides it once it is built, or
+-- provides it at the outset
 pub record Supplied (u : Universe) (s : Plan) (z p : ℕ) : Type 0 where
   pub before : s.supplier p < z
   pub provides : provided u p (built s z (s.supplier p)) ≡ true
 
--- from the state q, each state of the path is a successor of the one before, and the ports that it requires are supplied
+-- from the state q, each state of the path is a successor of the one before, and the ports that it requires are
+-- supplied
 unfoldable pub Passable : Universe → Plan → ℕ → ℕ → List ℕ → Type 0
 Passable u s z q [] = Unit {0}
 Passable u s z q (r ∷ rs) =
@@ -80,7 +82,8 @@ Passable u s z q (r ∷ rs) =
 
 -- the facts that make a plan work
 pub record Works (u : Universe) (s : Plan) : Type 0 where
-  -- what stands at the outset is gap-free, and its numbers are below the first
+  -- what stands at the outset is gap-free; the numbers of its instances, and of its bindings' requirers, are below the
+  -- first
   pub sound : GapFree u s.outset
   pub inst : (z : ℕ) → s.first ≤ z → s.outset.inst z ≡ None
   pub bound : (p x y : ℕ) → s.outset.bound p x y ≡ true → y < s.first

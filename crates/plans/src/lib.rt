@@ -1,12 +1,14 @@
 // Goals, the closing order, plans and their scripts: definitions, and the laws about them.
 #![tactic(auto)]
 
-ghost use Rattle.plans.specs.Laws.{ClosingLaw, EndLaw, LinesLaw, LowerLaw, NeededLaw, ReachLaw, SizeLaw};
+ghost use Rattle.plans.specs.Laws.{ClosingLaw, EndLaw, LinesLaw, LowerLaw, NeededLaw, ReachLaw, SizeLaw, WorkingLaw};
 
-// The laws hold: the closing order lists what some run brings about; the script for a goal in reach is a run that reaches it,
-// and no run reaches any other goal; the needed pairs are those that the goal needs, by rank, and the script leaves just
-// them; providers have lower numbers than requirers; scripts are short, and every order of one has a line.
+// The laws hold: the script of a plan that works is a run; the closing order lists what some run
+// brings about; the script for a goal in reach is a run that reaches it, and no run reaches any
+// other goal; the needed pairs are those that the goal needs, by rank, and the script leaves just
+// them; providers have lower numbers than requirers; scripts are short, and every order has a line.
 pub fn laws_hold()
+    ensures working { WorkingLaw }
     ensures closing { ClosingLaw }
     ensures reach { ReachLaw }
     ensures needed { NeededLaw }

@@ -11,7 +11,8 @@ use options::{
 };
 use piles::host_command_report;
 use planning::closing_text::closing_report;
-use planning::plan_lines::{MOST_LINES, plan_lines};
+use planner::plan::MOST_LINES;
+use planning::plan_lines::plan_lines;
 use scripts::{
     NoOrder, PackFault, lines_report, pack_orders, pack_text, parse_orders, refusal_text,
     script_bytes, script_lines,
@@ -31,7 +32,7 @@ const USAGE: &str = "usage:
   sengoruwa host UNIVERSE ORDERS [OPTIONS]
                                  give the orders of a text file to a fresh host, one by one
 A goal is its bytes in hexadecimal digits, as 24, or @PATH for a file of these bytes: for each line type 4 bits, state 3,
-one zero bit. --room N is how many lines the script may have.
+one zero bit. --room N (11136) is how many lines the script may have.
 The options of a host: --instances N (256), --bindings N (2048), the most that may stand; --delay D (0), how many
 orders are put off before each that is not; --layers WORD, a letter for each layer from the bottom up: v or vv.
 An order is written as one of: c INSTANCE TYPE (create), b PORT PROVIDER REQUIRER (bind),
@@ -173,7 +174,7 @@ fn pack<'a>(rt: &HostRuntime, orders: &'a str, path: &'a str) -> Result<(), Stop
 // What is wrong with an option, and what to do.
 fn fault_text(reason: Reason) -> &'static str {
     match reason {
-        Reason::Unknown => "no such option: the usage text has them all",
+        Reason::Unknown => "the command has no such option: the usage text has them all",
         Reason::Twice(_) => "given twice: give each option once",
         Reason::NoValue(_) => "no value: write it behind the option",
         Reason::BadValue(Flag::Layers) => "no such layers: write v or vv",
@@ -266,7 +267,8 @@ const SLOW_HOST: HostOptions = HostOptions {
     layers: Layers::Verifying,
 };
 
-// The orders, with the last one also given before the one before it, and each as often as a slow host needs to take one.
+// The orders, with the last one also given before the one before it, and each as often as a slow
+// host needs to take one.
 fn orders_with_one_early(alloc: Global, orders: &[Order]) -> Result<Vec<Order>, AllocError> {
     let mut given = Vec::new(alloc);
     let [before @ .., serve, release] = orders else {

@@ -1,12 +1,11 @@
-use Rattle.std.proofs.Common.{refl, ap, ◌∙◌}
+use Rattle.std.proofs.Common.{ap, ◌∙◌}
 use Rattle.std.specs.List.{position}
-use Rattle.universe.specs.Held.{universe_in}
-use Rattle.plans.specs.Closing.{leads}
-use Rattle.closing.proofs.Lookups.{found}
+use Rattle.std.specs.Option.{unwrap_or}
+use Rattle.closing.proofs.Lookups.{parent_found}
 use Rattle.closing.proofs.order.ClosingOrder.parent.Goals as goal
 
 pub returns : goal.returns
 returns c =
-    let o = c.args.self.now in
-    found o.universe.tables _ o.places o.len o.kept (λ e. leads (universe_in c.args.self.now.universe) c.args.pair e.pair) (leads (universe_in c.args.self.now.universe) c.args.pair) (λ h. refl) c.place_leading.result
-    (c.place_leading.ensures ∙ ap (position _) c.places.ensures) c.unwrap_or.result c.unwrap_or.ensures
+    c.unwrap_or.ensures
+    ∙ ap (λ found. unwrap_or found c.args.self.now.len) (c.place_leading.ensures ∙ ap (position _) c.places.ensures)
+    ∙ parent_found c.args.self.now c.args.pair

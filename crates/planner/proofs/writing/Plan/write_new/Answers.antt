@@ -9,7 +9,7 @@ loop-port-init c = wrote_first _ c.args.lines.now c.args.place
 
 pub write_link-place-requires : goal.write_link-place-requires
 write_link-place-requires c =
-    new_low c.args.before c.args.after c.loop-port.port (sym c.is_new.ensures ∙ c.if-is_new.true)
+    new_low c.args.absent c.args.present c.loop-port.port (sym c.is_new.ensures ∙ c.if-is_new.true)
 
 pub loop-port-preserved : goal.loop-port-preserved
 loop-port-preserved c = wrote_more _ c.loop-port.port c.loop-port.invariant
