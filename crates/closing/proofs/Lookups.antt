@@ -1,11 +1,10 @@
 -- A search among the kept places is the search among the listed pairs. Assumes nothing.
-use Rattle.std.proofs.Common.{List, [], ◌∷◌, ◌≡◌, ℕ, ◌+◌, Bool, cond, not, length, map, take, Option, refl, sym, ap, ◌∙◌, inl, inr, arith}
+use Rattle.std.proofs.Common.{List, [], ◌∷◌, ◌≡◌, ℕ, ◌+◌, Bool, cond, not, length, map, take, refl, sym, ap, ◌∙◌, inl, inr, arith}
 use Rattle.std.specs.List.{position, position_or_len}
 use Rattle.std.specs.Option.{unwrap_or}
 use Rattle.std.proofs.lemmas.Bool.{cases_lt, le-ltb, lt-ltb}
 use Rattle.std.proofs.lemmas.List.Sums.{prefix_len-le-length}
 use Rattle.model.specs.declared.pair.Pair.{Pair}
-use Rattle.universe.specs.declared.tables.Tables.{Tables}
 use Rattle.closing.specs.declared.order.Listed.{Listed}
 use Rattle.universe.specs.Held.{universe_in}
 use Rattle.universe.specs.Sets.{has}
@@ -51,10 +50,10 @@ module _ (o : ClosingOrder) where
 
   pub parent_found : (h : Pair) →
       unwrap_or (position (λ e. follows (universe_in o.universe) h e.pair) (take o.len o.places)) o.len ≡
-        parent_rank (universe_in_order o) (pairs_in_order o) h
+      parent_rank (universe_in_order o) (pairs_in_order o) h
   parent_found h = found o (λ e. follows (universe_in o.universe) h e.pair) (follows (universe_in o.universe) h) (λ g. refl)
 
   pub supplier_found : (p : ℕ) →
       unwrap_or (position (λ e. has 32 e.provided p) (take o.len o.places)) o.len ≡
-        supplier_rank (universe_in_order o) (pairs_in_order o) p
+      supplier_rank (universe_in_order o) (pairs_in_order o) p
   supplier_found p = found o (λ e. has 32 e.provided p) (provides (universe_in o.universe) p) (λ g. refl)

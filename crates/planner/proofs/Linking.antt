@@ -12,7 +12,6 @@ use Rattle.model.specs.Config.{pair}
 use Rattle.model.specs.declared.order.Order.{Order}
 use Rattle.model.specs.declared.order.Order.TheVariants.{Create, Change}
 use Rattle.model.specs.Universe.{Universe, Valid}
-use Rattle.universe.proofs.Sounds.{sound}
 use Rattle.universe.specs.Sets.{has}
 use Rattle.universe.proofs.PackedSets.{has_below}
 use Rattle.universe.specs.Tables.{entry_at}
@@ -21,7 +20,6 @@ use Rattle.closing.specs.Order.{pairs_in_order, universe_in_order}
 use Rattle.lines.specs.Line.{encoded}
 use Rattle.plans.specs.Plan.{Plan, binding, build, order_if, port_orders, script_of, step, walk}
 use Rattle.plans.proofs.Closed.{Closed}
-use Rattle.plans.proofs.Closings.{closing_closed}
 use Rattle.plans.proofs.Measures.{script_length}
 use Rattle.plans.proofs.Paths.{path_listed, path_short}
 use Rattle.plans.proofs.Ranks.{listed_at}

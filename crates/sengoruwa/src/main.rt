@@ -10,8 +10,8 @@ use options::{
     Command, Fault, Flag, Given, HostOptions, Layers, Reason, parse_options, plain_place,
 };
 use piles::host_command_report;
-use planning::closing_text::closing_report;
 use planner::plan::MOST_LINES;
+use planning::closing_text::closing_report;
 use planning::plan_lines::plan_lines;
 use scripts::{
     NoOrder, PackFault, lines_report, pack_orders, pack_text, parse_orders, refusal_text,
