@@ -296,6 +296,7 @@ impl<'a> Plan<'a> {
         }
         place
     }
+
     // How many lines the script has.
     fn count(&self) -> usize
         ensures { result ≡ length (script_of (universe_planned self.now) (plan_of self.now)) }
