@@ -1,1 +1,5 @@
+pub mod Ending
+pub mod Lines
+pub mod Standing
+pub mod Waiting
 pub mod Laws
