@@ -1,5 +1,5 @@
 -- How many bindings a done order ends. Assumes nothing.
-use Rattle.std.proofs.Common.{◌≡◌, ℕ, zero, suc, ◌+◌, Bool, true, false, cond, not, ◌&&◌, None, sym, refl, ◌∙◌, arith}
+use Rattle.std.proofs.Common.{◌≡◌, ℕ, zero, suc, ◌+◌, ◌<◌, Bool, true, false, cond, not, ◌&&◌, None, refl, ◌∙◌, arith}
 use mathlib.Core.Bool.{false≢true}
 use Rattle.model.specs.declared.order.Order.{Order}
 use Rattle.model.specs.declared.order.Order.TheVariants.{Create, Bind, Change, Unbind, Delete}
@@ -21,7 +21,7 @@ unfolding sum_below
 sum_parts f g h zero e = refl
 sum_parts f g h (suc n) e = let before = sum_parts f g h n e in let here = e n in omega arith
 
--- where each binding of c stands either in a or in b, the bindings of both together are those of c
+-- where each binding of c stands in a or in b and none in both, those of a and b together are as many as those of c
 bindings_parts : (m n : ℕ) (a b c : Config) →
     ((p x y : ℕ) → one (a.bound p x y) + one (b.bound p x y) ≡ one (c.bound p x y)) →
     bindings m n a + bindings m n b ≡ bindings m n c
@@ -29,14 +29,14 @@ unfolding bindings
 bindings_parts m n a b c h =
     sum_parts _ _ _ m (λ p. sum_parts _ _ _ n (λ x. sum_parts _ _ _ n (λ y. h p x y)))
 
--- what stood stands still, or has ended
+-- where b implies a, either b or a without b is one exactly if a is
 one_parts : (a b : Bool) → (b ≡ true → a ≡ true) → one b + one (a && not b) ≡ one a
 one_parts true true h = refl
 one_parts true false h = refl
 one_parts false true h = absurd (false≢true (h refl))
 one_parts false false h = refl
 
--- what stands still has not ended
+-- where a implies b, there is no a without b
 none_ended : (a b : Bool) → (a ≡ true → b ≡ true) → (a && not b) ≡ false
 none_ended true true h = refl
 none_ended true false h = absurd (false≢true (h refl))
@@ -69,7 +69,9 @@ ended_law s (Create z t) law e =
 ended_law s (Bind j) law e =
     let d = result_of (Bind j) s.config in
     let r = bind_range s law j e in
-    let more = count_law 32 256 s.universe s.config (Bind j) (offence_none s law (Bind j) e).0 (omega (arith, r.0, law.valid.ports)) r.1 r.2 in
+    let legal = (offence_none s law (Bind j) e).0 in
+    let low : j.port < 32 = omega (arith, r.0, law.valid.ports) in
+    let more = count_law 32 256 s.universe s.config (Bind j) legal low r.1 r.2 in
     let none = ended_none s.config d (bind_keeps s.config j) in
     omega (arith, more.1)
 ended_law s (Change z q) law e =

@@ -6,6 +6,7 @@ use Rattle.hosts.specs.Answers.{Meaning}
 use Rattle.execution.specs.Steps.{Progress, Step, Steps, begun}
 use Rattle.execution.specs.Laws.{AsExpected, EndsLaw, Holds, Start, StepsLaw}
 use Rattle.execution.proofs.Standing.{Kept, kept_first, kept_step}
+use Rattle.execution.proofs.Waiting.{ends_at}
 
 module _ (os : List Order) (m : Meaning) (start : Start os m) where
   -- what is kept, and an answer as expected, are all that has to hold
@@ -24,4 +25,4 @@ pub steps_law : StepsLaw
 steps_law os m ts start h = steps_hold os m start (begun m) ts (kept_first os m start) h
 
 pub ends_law : EndsLaw
-ends_law = ?
+ends_law os m ts start h c many = ends_at os m start ts h c many

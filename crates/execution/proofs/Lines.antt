@@ -1,15 +1,24 @@
 -- The line at a place of a script. Assumes nothing.
-use Rattle.std.proofs.Common.{List, ◌∷◌, [], ◌++◌, ◌≡◌, ℕ, ◌+◌, ◌<◌, Bool, cond, Some, Option, take, drop, length, slice_get, get_or, All, count_by, subst, ap, ◌∙◌}
+use Rattle.std.proofs.Common.{List, ◌∷◌, [], ◌++◌, ◌≡◌, ℕ, ◌+◌, ◌<◌, ◌≤◌, Bool, cond, Some, None, take, drop, length, slice_get, get_or, All, count_by, inl, inr, subst, sym, ◌∙◌}
 use Rattle.std.proofs.lemmas.List.{drop_more, take_more}
 use Rattle.std.proofs.lemmas.List.Elements.{All-get_or}
 use Rattle.std.proofs.lemmas.List.Sums.{sum_by-drop_more}
-use Rattle.std.proofs.lemmas.Option.{get_or_from_slice_get, slice_get_within}
+use Rattle.std.proofs.lemmas.Option.{get_or_from_slice_get, none-some, slice_get_cases, slice_get_within}
+
+-- where there is no line, the place is at the end or behind it
+pub line_none : {X : Type 0} (xs : List X) (i : ℕ) → slice_get xs i ≡ None → length xs ≤ i
+line_none xs i e =
+    elim (slice_get_cases xs i).1 [
+      | inl there ↦ absurd (none-some there.0 (sym e ∙ there.2))
+      | inr past ↦ past.0
+    ]
 
 module _ {X : Type 0} (xs : List X) (i : ℕ) (x : X) (e : slice_get xs i ≡ Some x) where
   -- the place is within the script
   pub line_within : i < length xs
   line_within = slice_get_within xs i x e
 
+  -- the same line, read with itself as the default
   at_place : get_or xs i x ≡ x
   at_place = get_or_from_slice_get xs i x x e
 

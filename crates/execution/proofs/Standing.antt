@@ -1,5 +1,5 @@
 -- What holds at each place of a run, and that each step keeps it. Assumes nothing.
-use Rattle.std.proofs.Common.{◌≡◌, ℕ, ◌+◌, ◌≤◌, List, [], ◌∷◌, ◌++◌, Ok, Err, Some, None, Option, All, take, drop, length, slice_get, refl, sym, ap, ◌∙◌, subst, arith}
+use Rattle.std.proofs.Common.{◌≡◌, ℕ, ◌+◌, ◌≤◌, List, [], ◌∷◌, Ok, Err, Some, None, Option, take, drop, length, slice_get, refl, sym, ap, ◌∙◌, subst, arith}
 use Rattle.model.specs.declared.order.Order.{Order}
 use Rattle.model.specs.Config.{WellFormed}
 use Rattle.model.specs.Gaps.{GapFree}
@@ -8,7 +8,7 @@ use Rattle.model.specs.Runs.{after, RunsFrom}
 use Rattle.model.proofs.Formed.{formed_law}
 use Rattle.model.proofs.Runs.{prefix_law}
 use Rattle.hosts.specs.Survey.{Situation, Lawful, bindings_of}
-use Rattle.hosts.specs.Service.{Profile, Sane}
+use Rattle.hosts.specs.Service.{Sane}
 use Rattle.hosts.specs.Offences.{offence}
 use Rattle.hosts.specs.Answers.{Answer, Meaning, reason_of}
 use Rattle.hosts.specs.Laws.{Expected, InRange}
@@ -19,7 +19,7 @@ use Rattle.execution.specs.Laws.{AsExpected, Start}
 use Rattle.execution.proofs.Ending.{ended_law, ended_same}
 use Rattle.execution.proofs.Lines.{line_all, line_done, line_left, line_within}
 
--- what the order makes of what stands
+-- where the order leads from what stands
 abbrev led : Order → Situation → Situation
 led o s = record { universe = s.universe; config = result_of o s.config }
 
@@ -32,12 +32,12 @@ pub record At (os : List Order) (first : Situation) (i : ℕ) (s : Situation) : 
   pub stands : s ≡ record { universe = first.universe; config = after first.config (take i os) }
 
 module _ (os : List Order) (first : Situation) where
-  -- places and what stands may be written otherwise
+  -- place and what stands may be written otherwise
   at_same : (i j : ℕ) (s t : Situation) → j ≡ i → t ≡ s → At os first i s → At os first j t
   at_same i j s t p q h = subst (λ k. At os first k t) (sym p) (subst (λ k. At os first i k) (sym q) h)
 
   module _ (i : ℕ) (s : Situation) (h : At os first i s) (o : Order) (e : slice_get os i ≡ Some o) where
-    -- the line at the place is legal and leaves no gap, and from its result those that are left are a run
+    -- the line at the place is legal and leaves no gap, and from its result those that are then left are a run
     line_runs : Legal s.universe s.config o × GapFree s.universe (result_of o s.config) ×
         RunsFrom s.universe (result_of o s.config) (drop (i + 1) os)
     unfolding RunsFrom
@@ -96,23 +96,26 @@ module _ (os : List Order) (m : Meaning) (start : Start os m) where
     kept_expected : (r : Answer) → Ordered o a r b → Expected (reason_of r)
     kept_expected r h =
         let l = line_runs os m.situation a.place a.host.situation k.at o e in
-        expected_law o a.host b.host r k.at.lawful k.at.formed l.0 (line_all os a.place o e InRange start.range) l.1 h.host
+        let low = line_all os a.place o e InRange start.range in
+        expected_law o a.host b.host r k.at.lawful k.at.formed l.0 low l.1 h.host
 
     -- the host keeps what no answer alters
-    kept_service : (r : Answer) → Ordered o a r b → (b.host.service.profile ≡ m.service.profile) × Sane b.host.service
+    kept_service : (r : Answer) → Ordered o a r b →
+        (b.host.service.profile ≡ m.service.profile) × Sane b.host.service
     kept_service r h = let s = kept_law o a.host b.host r k.sane h.host in (s.1 ∙ k.profile, s.2)
 
     -- what is done leads to the next place, and anything else leaves the place and what stands
     kept_line : (r : Answer) → Ordered o a r b → Kept os m b
     kept_line (Ok x) h =
         let d = done_law o a.host b.host (Ok x) h.host refl in
+        let next = at_next os m.situation a.place a.host.situation k.at o e d.1 in
         let s = kept_service (Ok x) h in
         let low = line_within os a.place o e in
         let now = ap bindings_of d.2 in
         let gone = ap (λ (t : Situation). ended_between a.host.situation.config t.config) d.2 in
         let law = ended_law a.host.situation o k.at.lawful d.1 in
         record {
-          at = at_same os m.situation (a.place + 1) b.place _ b.host.situation h.place d.2 (at_next os m.situation a.place a.host.situation k.at o e d.1);
+          at = at_same os m.situation (a.place + 1) b.place _ b.host.situation h.place d.2 next;
           place = omega (arith, h.place);
           sane = s.1;
           profile = s.0;

@@ -9,7 +9,7 @@ use Rattle.hosts.specs.Survey.{Lawful, bindings_of}
 use Rattle.hosts.specs.Service.{Sane}
 use Rattle.hosts.specs.Answers.{Answer, Meaning, is_bind, is_create, reason_of}
 use Rattle.hosts.specs.Laws.{Expected, InRange}
-use Rattle.execution.specs.Steps.{Progress, Step, Steps, begun, reached}
+use Rattle.execution.specs.Steps.{Step, Steps, begun, reached}
 
 -- where a run of the script may start: the host keeps its two laws, what stands is well formed and gap-free, and from
 -- there the script is a run with its numbers in range
