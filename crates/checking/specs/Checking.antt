@@ -1,0 +1,30 @@
+-- What check answers.
+use Rattle.std.specs.Prelude.{◌≡◌, Bool, true, not, ◌&&◌, ◌==◌, Ok, Err, Result}
+use Rattle.model.specs.Config.{empty}
+use Rattle.hosts.specs.Survey.{Situation, Lawful, bindings_of, instances_of}
+use Rattle.checking.specs.declared.stages.Draft.{Draft}
+use Rattle.checking.specs.declared.stages.CheckedPlan.{CheckedPlan}
+use Rattle.checking.specs.declared.refusal.CheckRefusal.{CheckRefusal}
+use Rattle.checking.specs.declared.refusal.CheckRefusal.TheVariants.{NotEmpty}
+use Rattle.checking.specs.Judging.{and_then, length_judged, refused_if, replayed}
+
+-- neither an instance nor a binding stands
+abbrev pub is_empty : Situation → Bool
+is_empty s = instances_of s == 0 && bindings_of s == 0
+
+-- nothing stands, in a survey, exactly if its configuration is the empty one
+abbrev pub EmptyLaw : Type 0
+EmptyLaw = (s : Situation) → Lawful s → (is_empty s ≡ true) ↔ (s.config ≡ empty)
+
+-- the plan with the lines of a draft
+abbrev pub plan_of : Draft → Result (Unit {0}) CheckRefusal → Result CheckedPlan CheckRefusal
+plan_of d (Ok x) = Ok (record { lines = d.lines })
+plan_of d (Err e) = Err e
+
+-- refused where something stands
+abbrev pub empty_judged : Situation → Result (Unit {0}) CheckRefusal
+empty_judged s = refused_if (not (is_empty s)) NotEmpty (Ok tt)
+
+-- the number of lines is tested first, then that nothing stands, and then the lines are judged in the host's universe
+abbrev pub checked : Situation → Draft → Result CheckedPlan CheckRefusal
+checked s d = plan_of d (and_then (length_judged d.lines.now) (and_then (empty_judged s) (replayed s.universe 0 empty d.lines.now)))

@@ -1,0 +1,5 @@
+pub mod Refusals
+pub mod Judging
+pub mod Replaying
+pub mod Passing
+pub mod Checking

@@ -1,0 +1,36 @@
+// The check of a draft against a host.
+ghost use Rattle.std.specs.Prelude.{◌≡◌};
+ghost use Rattle.checking.specs.Checking.{checked, empty_judged, is_empty};
+
+use crate::judge::{judge_length, replay};
+use crate::refusal::CheckRefusal;
+use crate::stages::{CheckedPlan, Draft};
+use hosts::survey::Survey;
+
+// Whether nothing stands.
+pub fn is_empty<S: Survey>(survey: &S) -> bool
+    ensures { result ≡ is_empty (S.situation survey.now) }
+{
+    survey.instances() == 0 && survey.bindings() == 0
+}
+
+// Refused where something stands.
+fn judge_empty<S: Survey>(survey: &S) -> Result<(), CheckRefusal>
+    ensures { result ≡ empty_judged (S.situation survey.now) }
+{
+    if !is_empty(survey) {
+        return Err(CheckRefusal::NotEmpty);
+    }
+    Ok(())
+}
+
+// Checks the draft against a host: its lines are replayed from empty in the host's universe. The host is asked as a survey,
+// so it is given no order, and neither waits nor allowances are seen.
+pub fn check<'a, S: Survey>(draft: Draft<'a>, host: &S) -> Result<CheckedPlan<'a>, CheckRefusal>
+    ensures { result ≡ checked (S.situation host.now) draft }
+{
+    judge_length(draft.lines)?;
+    judge_empty(host)?;
+    replay(*host.universe(), draft.lines)?;
+    Ok(CheckedPlan { lines: draft.lines })
+}

@@ -1,0 +1,101 @@
+// The judgement of lines in a universe, with no host.
+ghost use Rattle.std.specs.Prelude.{◌≡◌, false, None, Ok, Err, MatchResult};
+ghost use Rattle.model.specs.Config.{empty};
+ghost use Rattle.universe.specs.Held.{universe_in};
+ghost use Rattle.hosts.specs.Survey.{has_gap};
+ghost use Rattle.hosts.specs.Offences.{offence};
+ghost use Rattle.hosts.specs.Answers.{leaves_gap};
+ghost use Rattle.table.specs.Table.{held_of, situation_of};
+ghost use Rattle.checking.specs.Judging.{judged, length_judged, line_judged, order_judged, replayed};
+ghost use Rattle.checking.specs.Passing.{RefusedUnless};
+ghost use Rattle.checking.specs.Replaying.{Kept, largest};
+
+use crate::refusal::{CheckRefusal, LineFault};
+use hosts::refusal::Reason;
+use hosts::survey::Survey;
+use lines::decode;
+use model::order::Order;
+use rules::gaps::{Prospect, opens_gap};
+use table::limits::Limits;
+use table::table::Table;
+use universe::held::Universe;
+
+// As much as a table can hold. A line's numbers pass no other limit.
+const LARGEST: Limits = Limits {
+    instances: 256,
+    bindings: 2048,
+};
+
+// Whether the order leaves a gap, where nothing has one and the order has no offence: it is looked for where the order
+// can open one.
+fn does_leave_gap<S: Survey>(survey: &S, order: Order) -> bool
+    ensures { has_gap (S.situation survey.now) ≡ false → offence order (S.situation survey.now) ≡ None → result ≡ leaves_gap order (S.situation survey.now) }
+{
+    match order {
+        Order::Change { instance, state } => u8::try_from(state).is_ok_and(|state| opens_gap(
+            survey,
+            Prospect::Changed { instance, state },
+        )),
+        Order::Unbind(binding) => opens_gap(survey, Prospect::Unbound(binding)),
+        Order::Create { .. } | Order::Bind(_) | Order::Delete { .. } => false,
+    }
+}
+
+// Applies the order, or tells why it is bad.
+fn replay_order(table: &mut Table, order: Order) -> Result<(), LineFault>
+    requires largest { (held_of table.old).limits ≡ largest }
+    requires gap_free { has_gap (situation_of table.old) ≡ false }
+    ensures judged { MatchResult result (λ _. order_judged (situation_of table.old) order ≡ Ok (situation_of table.new).config) (λ e. order_judged (situation_of table.old) order ≡ Err e) }
+    ensures kept { Kept (held_of table.old) (held_of table.new) }
+{
+    let leaves_gap = does_leave_gap(table, order);
+    match table.apply(order) {
+        Ok(()) if leaves_gap => Err(LineFault::Gap),
+        Ok(()) => Ok(()),
+        Err(Reason::Illegal(offence)) => Err(LineFault::Illegal(offence)),
+        // The largest table is full only for a bind, and gives no other reason.
+        Err(Reason::Full | Reason::Gap | Reason::Busy) => Err(LineFault::TooManyBindings),
+    }
+}
+
+// Applies the order of the line, or tells why the line is bad.
+#[tactic(auto, unfolding(crate::specs::Judging::line_judged))]
+fn replay_line(table: &mut Table, line: u32) -> Result<(), LineFault>
+    requires largest { (held_of table.old).limits ≡ largest }
+    requires gap_free { has_gap (situation_of table.old) ≡ false }
+    ensures judged { MatchResult result (λ _. line_judged (situation_of table.old) line ≡ Ok (situation_of table.new).config) (λ e. line_judged (situation_of table.old) line ≡ Err e) }
+    ensures kept { Kept (held_of table.old) (held_of table.new) }
+{
+    let order = decode(line).map_err(|_| LineFault::NotALine)?;
+    replay_order(table, order)
+}
+
+// Refused where there are no lines, or too many.
+pub(crate) fn judge_length(lines: &[u32]) -> Result<(), CheckRefusal>
+    ensures { result ≡ length_judged lines.now }
+{
+    if !(1..=32768).contains(&lines.len()) {
+        return Err(CheckRefusal::Length);
+    }
+    Ok(())
+}
+
+// Replays the lines from empty, up to the first that is bad.
+pub(crate) fn replay(universe: Universe, lines: &[u32]) -> Result<(), CheckRefusal>
+    ensures { result ≡ replayed (universe_in universe) 0 empty lines.now }
+{
+    let mut table = Table::open(universe, LARGEST);
+    for (place, line) in lines.iter().enumerate() {
+        replay_line(&mut table, *line).map_err(|fault| CheckRefusal::AtLine { place, fault })?;
+    }
+    Ok(())
+}
+
+// Judges the lines in the universe: they pass, or the refusal.
+pub fn judge(universe: &Universe, lines: &[u32]) -> Result<(), CheckRefusal>
+    ensures answer { result ≡ judged (universe_in universe.now) lines.now }
+    ensures law { RefusedUnless (universe_in universe.now) lines.now result }
+{
+    judge_length(lines)?;
+    replay(*universe, lines)
+}

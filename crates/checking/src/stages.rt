@@ -1,0 +1,22 @@
+// Scripts on their way to a host: a draft that nobody has checked, and a plan that passed the check.
+
+// A script that nobody has checked. Its lines are lent, so they stay as they are.
+#[derive(Clone, Copy)]
+pub struct Draft<'a> {
+    pub lines: &'a [u32],
+}
+
+// A script that passed the check, which alone makes one.
+#[derive(Clone, Copy)]
+pub struct CheckedPlan<'a> {
+    pub(crate) lines: &'a [u32],
+}
+
+impl<'a> CheckedPlan<'a> {
+    // Its lines.
+    pub fn lines(self) -> &'a [u32]
+        ensures { result ≡ self.lines }
+    {
+        self.lines
+    }
+}
