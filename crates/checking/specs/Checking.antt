@@ -1,5 +1,5 @@
 -- What check answers.
-use Rattle.std.specs.Prelude.{◌≡◌, Bool, true, not, ◌&&◌, ◌==◌, Ok, Err, Result}
+use Rattle.std.specs.Prelude.{◌≡◌, ◌↔◌, Bool, true, not, ◌&&◌, ◌==◌, Ok, Err, Result}
 use Rattle.model.specs.Config.{empty}
 use Rattle.hosts.specs.Survey.{Situation, Lawful, bindings_of, instances_of}
 use Rattle.checking.specs.declared.stages.Draft.{Draft}

@@ -1,5 +1,10 @@
 -- The table to which lines are replayed.
-use Rattle.std.specs.Prelude.{◌≡◌}
+use Rattle.std.specs.Prelude.{◌≡◌, Ok, Err, Result}
+use Rattle.hosts.specs.declared.refusal.Reason.{Reason}
+use Rattle.hosts.specs.declared.refusal.Reason.TheVariants.{Busy, Gap, Full, Illegal as Illegally}
+use Rattle.model.specs.Config.{Config}
+use Rattle.checking.specs.declared.refusal.LineFault.{LineFault}
+use Rattle.checking.specs.declared.refusal.LineFault.TheVariants.{Illegal, TooManyBindings}
 use Rattle.table.specs.declared.limits.Limits.{Limits}
 use Rattle.table.specs.Table.{Held}
 
@@ -10,3 +15,15 @@ largest = record { instances = 256; bindings = 2048 }
 -- universe and limits stay
 abbrev pub Kept : Held → Held → Type 0
 Kept h k = (k.situation.universe ≡ h.situation.universe) × (k.limits ≡ h.limits)
+
+-- the fault of an order that the largest table refuses; it gives no other reason than an offence, and full for a bind
+abbrev pub fault_of_reason : Reason → LineFault
+fault_of_reason (Illegally e) = Illegal e
+fault_of_reason Full = TooManyBindings
+fault_of_reason Gap = TooManyBindings
+fault_of_reason Busy = TooManyBindings
+
+-- what is judged, without what stands
+abbrev pub answer_of : Result Config LineFault → Result (Unit {0}) LineFault
+answer_of (Ok d) = Ok tt
+answer_of (Err e) = Err e

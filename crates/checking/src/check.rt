@@ -27,7 +27,7 @@ fn judge_empty<S: Survey>(survey: &S) -> Result<(), CheckRefusal>
 // Checks the draft against a host: its lines are replayed from empty in the host's universe. The host is asked as a survey,
 // so it is given no order, and neither waits nor allowances are seen.
 pub fn check<'a, S: Survey>(draft: Draft<'a>, host: &S) -> Result<CheckedPlan<'a>, CheckRefusal>
-    ensures { result ≡ checked (S.situation host.now) draft }
+    ensures { result ≡ checked (S.situation host.now) draft.entry }
 {
     judge_length(draft.lines)?;
     judge_empty(host)?;

@@ -1,5 +1,5 @@
 // The judgement of lines in a universe, with no host.
-ghost use Rattle.std.specs.Prelude.{◌≡◌, false, None, Ok, Err, MatchResult};
+ghost use Rattle.std.specs.Prelude.{◌≡◌, false, None, Ok, IfOk};
 ghost use Rattle.model.specs.Config.{empty};
 ghost use Rattle.universe.specs.Held.{universe_in};
 ghost use Rattle.hosts.specs.Survey.{has_gap};
@@ -8,11 +8,10 @@ ghost use Rattle.hosts.specs.Answers.{leaves_gap};
 ghost use Rattle.table.specs.Table.{held_of, situation_of};
 ghost use Rattle.checking.specs.Judging.{judged, length_judged, line_judged, order_judged, replayed};
 ghost use Rattle.checking.specs.Passing.{RefusedUnless};
-ghost use Rattle.checking.specs.Replaying.{Kept, largest};
+ghost use Rattle.checking.specs.Replaying.{Kept, answer_of, fault_of_reason, largest};
 
 use crate::refusal::{CheckRefusal, LineFault};
 use hosts::refusal::Reason;
-use hosts::survey::Survey;
 use lines::decode;
 use model::order::Order;
 use rules::gaps::{Prospect, opens_gap};
@@ -28,34 +27,45 @@ const LARGEST: Limits = Limits {
 
 // Whether the order leaves a gap, where nothing has one and the order has no offence: it is looked for where the order
 // can open one.
-fn does_leave_gap<S: Survey>(survey: &S, order: Order) -> bool
-    ensures { has_gap (S.situation survey.now) ≡ false → offence order (S.situation survey.now) ≡ None → result ≡ leaves_gap order (S.situation survey.now) }
+#[tactic(auto, using(crate::proofs::Orders::untested))]
+fn does_leave_gap(table: &Table, order: Order) -> bool
+    ensures { has_gap (situation_of table.now) ≡ false → offence order (situation_of table.now) ≡ None → result ≡ leaves_gap order (situation_of table.now) }
 {
     match order {
         Order::Change { instance, state } => u8::try_from(state).is_ok_and(|state| opens_gap(
-            survey,
+            table,
             Prospect::Changed { instance, state },
         )),
-        Order::Unbind(binding) => opens_gap(survey, Prospect::Unbound(binding)),
+        Order::Unbind(binding) => opens_gap(table, Prospect::Unbound(binding)),
         Order::Create { .. } | Order::Bind(_) | Order::Delete { .. } => false,
     }
 }
 
+// The fault of an order that the largest table refuses. It gives no other reason than an offence, and full for a bind.
+fn fault_of(reason: Reason) -> LineFault
+    ensures { result ≡ fault_of_reason reason }
+{
+    match reason {
+        Reason::Illegal(offence) => LineFault::Illegal(offence),
+        Reason::Full | Reason::Gap | Reason::Busy => LineFault::TooManyBindings,
+    }
+}
+
 // Applies the order, or tells why it is bad.
+#[tactic(auto, using(crate::proofs::Orders::gap_told, crate::proofs::Orders::done_told, crate::proofs::Orders::done_answer, crate::proofs::Orders::refused_told))]
 fn replay_order(table: &mut Table, order: Order) -> Result<(), LineFault>
     requires largest { (held_of table.old).limits ≡ largest }
     requires gap_free { has_gap (situation_of table.old) ≡ false }
-    ensures judged { MatchResult result (λ _. order_judged (situation_of table.old) order ≡ Ok (situation_of table.new).config) (λ e. order_judged (situation_of table.old) order ≡ Err e) }
+    ensures answer { result ≡ answer_of (order_judged (situation_of table.old) order) }
+    ensures stands { IfOk result (λ _. order_judged (situation_of table.old) order ≡ Ok (situation_of table.new).config) }
     ensures kept { Kept (held_of table.old) (held_of table.new) }
 {
     let leaves_gap = does_leave_gap(table, order);
-    match table.apply(order) {
-        Ok(()) if leaves_gap => Err(LineFault::Gap),
-        Ok(()) => Ok(()),
-        Err(Reason::Illegal(offence)) => Err(LineFault::Illegal(offence)),
-        // The largest table is full only for a bind, and gives no other reason.
-        Err(Reason::Full | Reason::Gap | Reason::Busy) => Err(LineFault::TooManyBindings),
+    table.apply(order).map_err(fault_of)?;
+    if leaves_gap {
+        return Err(LineFault::Gap);
     }
+    Ok(())
 }
 
 // Applies the order of the line, or tells why the line is bad.
@@ -63,7 +73,8 @@ fn replay_order(table: &mut Table, order: Order) -> Result<(), LineFault>
 fn replay_line(table: &mut Table, line: u32) -> Result<(), LineFault>
     requires largest { (held_of table.old).limits ≡ largest }
     requires gap_free { has_gap (situation_of table.old) ≡ false }
-    ensures judged { MatchResult result (λ _. line_judged (situation_of table.old) line ≡ Ok (situation_of table.new).config) (λ e. line_judged (situation_of table.old) line ≡ Err e) }
+    ensures answer { result ≡ answer_of (line_judged (situation_of table.old) line) }
+    ensures stands { IfOk result (λ _. line_judged (situation_of table.old) line ≡ Ok (situation_of table.new).config) }
     ensures kept { Kept (held_of table.old) (held_of table.new) }
 {
     let order = decode(line).map_err(|_| LineFault::NotALine)?;
