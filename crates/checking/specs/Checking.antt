@@ -1,11 +1,12 @@
 -- What check answers.
-use Rattle.std.specs.Prelude.{◌≡◌, ◌↔◌, Bool, true, not, ◌&&◌, ◌==◌, Ok, Err, Result}
+use Rattle.std.specs.Prelude.{◌≡◌, ◌↔◌, Bool, true, not, ◌&&◌, ◌==◌, Ok, Err, IsOk, Result}
 use Rattle.model.specs.Config.{empty}
 use Rattle.hosts.specs.Survey.{Situation, Lawful, bindings_of, instances_of}
 use Rattle.checking.specs.declared.stages.Draft.{Draft}
 use Rattle.checking.specs.declared.stages.CheckedPlan.{CheckedPlan}
 use Rattle.checking.specs.declared.refusal.CheckRefusal.{CheckRefusal}
 use Rattle.checking.specs.declared.refusal.CheckRefusal.TheVariants.{NotEmpty}
+use Rattle.checking.specs.Passing.{Passes}
 use Rattle.checking.specs.Judging.{and_then, length_judged, refused_if, replayed}
 
 -- neither an instance nor a binding stands
@@ -28,3 +29,7 @@ empty_judged s = refused_if (not (is_empty s)) NotEmpty (Ok tt)
 -- the number of lines is tested first, then that nothing stands, and then the lines are judged in the host's universe
 abbrev pub checked : Situation → Draft → Result CheckedPlan CheckRefusal
 checked s d = plan_of d (and_then (length_judged d.lines.now) (and_then (empty_judged s) (replayed s.universe 0 empty d.lines.now)))
+
+-- it yields a plan exactly if nothing stands in the host and the lines pass in its universe
+abbrev pub CheckedUnless : Situation → Draft → Result CheckedPlan CheckRefusal → Type 0
+CheckedUnless s d r = IsOk r ↔ ((s.config ≡ empty) × Passes s.universe d.lines.now)

@@ -1,6 +1,6 @@
 // The check of a draft against a host.
 ghost use Rattle.std.specs.Prelude.{◌≡◌};
-ghost use Rattle.checking.specs.Checking.{checked, empty_judged, is_empty};
+ghost use Rattle.checking.specs.Checking.{CheckedUnless, checked, empty_judged, is_empty};
 
 use crate::judge::{judge_length, replay};
 use crate::refusal::CheckRefusal;
@@ -27,7 +27,8 @@ fn judge_empty<S: Survey>(survey: &S) -> Result<(), CheckRefusal>
 // Checks the draft against a host: its lines are replayed from empty in the host's universe. The host is asked as a survey,
 // so it is given no order, and neither waits nor allowances are seen.
 pub fn check<'a, S: Survey>(draft: Draft<'a>, host: &S) -> Result<CheckedPlan<'a>, CheckRefusal>
-    ensures { result ≡ checked (S.situation host.now) draft.entry }
+    ensures answer { result ≡ checked (S.situation host.now) draft.entry }
+    ensures law { CheckedUnless (S.situation host.now) draft.entry result }
 {
     judge_length(draft.lines)?;
     judge_empty(host)?;
