@@ -16,7 +16,7 @@ pub struct CheckedPlan<'a> {
 impl<'a> CheckedPlan<'a> {
     // Its lines.
     pub fn lines(self) -> &'a [u32]
-        ensures { result ≡ self.lines }
+        ensures { result ≡ self.entry.lines }
     {
         self.lines
     }
