@@ -4,9 +4,10 @@
 It follows the rules that docs/FORMATS.md and docs/REFUSALS.md state and shares no code with the crates.
 It has the same author as they, so a rule that was misread would be misread in both; so the answers of
 hosts also stand in the table, worked out by hand, and have to be those of the simulation. So do most of the planner's.
-The planner is planning.py, and the universes that are made for it stand in plan_cases.py.
+The planner is planning.py, and the universes that are made for it stand in plan_cases.py; the check is checking.py, and its
+drafts stand in check_cases.py.
 Run from the repository's root, it writes the inputs to crates/cases/data/ and what the program
-`cases` has to print for them to crates/cases/stdout, and so for host_cases and plan_cases.
+`cases` has to print for them to crates/cases/stdout, and so for host_cases, plan_cases and check_cases.
 """
 import os
 
@@ -778,6 +779,8 @@ def plans_table():
 
 
 def main():
+    import check_cases  # which stands on this module
+
     crates = os.path.join(os.path.dirname(os.path.abspath(__file__)), "..", "crates")
     here = os.path.join(crates, "cases")
     hosts = os.path.join(crates, "host_cases")
@@ -811,6 +814,16 @@ def main():
         f.write(closing_rows)
     with open(os.path.join(plans, "stdout"), "w") as f:
         f.write(closing_out + plan_out)
+    checks = os.path.join(crates, "check_cases")
+    draft_rows, draft_out = check_cases.drafts_table()
+    standing_rows, standing_out = check_cases.standing_table()
+    os.makedirs(os.path.join(checks, "data"), exist_ok=True)
+    with open(os.path.join(checks, "data", "drafts.txt"), "w") as f:
+        f.write(draft_rows)
+    with open(os.path.join(checks, "data", "standing.txt"), "w") as f:
+        f.write(standing_rows)
+    with open(os.path.join(checks, "stdout"), "w") as f:
+        f.write(draft_out + standing_out)
 
 
 if __name__ == "__main__":
