@@ -92,6 +92,7 @@ pub(crate) fn judge_length(lines: &[u32]) -> Result<(), CheckRefusal>
 }
 
 // Replays the lines from empty, up to the first that is bad.
+#[tactic(auto, using(crate::proofs::Turns::turn_end, crate::proofs::Turns::turn_last))]
 pub(crate) fn replay(universe: Universe, lines: &[u32]) -> Result<(), CheckRefusal>
     ensures { result ≡ replayed (universe_in universe) 0 empty lines.now }
 {
