@@ -13,19 +13,19 @@ use Rattle.hosts.specs.Survey.{Lawful, Situation, bindings_of, has_gap}
 use Rattle.hosts.specs.Offences.{offence}
 use Rattle.hosts.specs.Answers.{is_bind, leaves_gap}
 use Rattle.hosts.proofs.Offending.{lawful_below}
-use Rattle.table.specs.Table.{Held}
+use Rattle.table.specs.declared.table.Table.{Table}
+use Rattle.table.specs.Table.{Held, held_of, lawful_of, situation_of}
 use Rattle.model.specs.Universe.{Universe}
 use Rattle.checking.specs.declared.refusal.CheckRefusal.{CheckRefusal}
-use Rattle.checking.specs.declared.refusal.CheckRefusal.TheVariants.{AtLine}
 use Rattle.checking.specs.declared.refusal.LineFault.{LineFault}
 use Rattle.checking.specs.declared.refusal.LineFault.TheVariants.{Gap, TooManyBindings}
 use Rattle.checking.specs.Judging.{after_line, line_judged, order_judged, refused_by, refused_if, replayed, situation, told_judged}
-use Rattle.checking.specs.Replaying.{Kept, answer_of, largest}
+use Rattle.checking.specs.Replaying.{answer_at, fresh, largest}
 
--- what is judged is a fault exactly if the answer is
-fault_judged : (j : Result Config LineFault) (e : LineFault) → Err e ≡ answer_of j → j ≡ Err e
-fault_judged (Ok d) e h = let z = h in cc
-fault_judged (Err f) e h = let z : e ≡ f = cc in ap Err (sym z)
+-- what is refused at a place is a fault
+fault_judged : (place : ℕ) (j : Result Config LineFault) (r : CheckRefusal) (rest : Config → Result (Unit {0}) CheckRefusal) → Err r ≡ answer_at place j → after_line place j rest ≡ Err r
+fault_judged place (Ok d) r rest h = let z : ◌≡◌ {A = ℕ} 0 1 = cc in absurd (omega arith)
+fault_judged place (Err e) r rest h = sym h
 
 -- what passes leaves no gap
 order_free : (s : Situation) (o : Order) (d : Config) → order_judged s o ≡ Ok d → has_gap (situation s.universe d) ≡ false
@@ -61,9 +61,8 @@ module _ (u : Universe) (c : Config) (xs : List ℕ) (i : ℕ) (all : Result (Un
   turn_more d h e = sym (ap (λ j. after_line i j (λ d. replayed u (i + 1) d (drop (i + 1) xs))) e) ∙ turn h
 
   -- a bad line is the refusal
-  pub turn_last : (e : LineFault) → i < length xs → Err e ≡ answer_of (line_judged (situation u c) (get_or xs i 0)) → Err (AtLine i e) ≡ all
-  turn_last e h f =
-      sym (ap (λ j. after_line i j (λ d. replayed u (i + 1) d (drop (i + 1) xs))) (fault_judged (line_judged (situation u c) (get_or xs i 0)) e f)) ∙ turn h
+  pub turn_last : (r : CheckRefusal) → i < length xs → Err r ≡ answer_at i (line_judged (situation u c) (get_or xs i 0)) → Err r ≡ all
+  turn_last r h f = sym (fault_judged i (line_judged (situation u c) (get_or xs i 0)) r (λ d. replayed u (i + 1) d (drop (i + 1) xs)) f) ∙ turn h
 
   -- behind the last line nothing is refused
   pub turn_end : length xs ≤ i → Ok tt ≡ all
@@ -71,34 +70,32 @@ module _ (u : Universe) (c : Config) (xs : List ℕ) (i : ℕ) (all : Result (Un
   turn_end h = sym (at_drop_all (replayed u i c) xs i h) ∙ so_far
 
 -- so far all lines passed: the table is the largest and has no gap, and what is left gives the whole
-pub record Passed (u : Universe) (xs : List ℕ) (i : ℕ) (h : Held) : Type 0 where
-  pub large : h.limits ≡ largest
-  pub free : has_gap h.situation ≡ false
-  pub rest : replayed h.situation.universe i h.situation.config (drop i xs) ≡ replayed u 0 empty xs
+pub record Passed (u : Universe) (xs : List ℕ) (i : ℕ) (t : Table) : Type 0 where
+  pub large : (held_of t).limits ≡ largest
+  pub free : has_gap (situation_of t) ≡ false
+  pub rest : replayed (situation_of t).universe i (situation_of t).config (drop i xs) ≡ replayed u 0 empty xs
 
 module _ (u : Universe) (xs : List ℕ) where
-  -- before the first line
-  pub passed_first : (h : Held) → Lawful h.situation → h ≡ record { situation = record { universe = u; config = empty }; limits = largest } → Passed u xs 0 h
-  passed_first h law is =
-      subst (λ k. Passed u xs 0 k) (sym is)
-      (record {
-        large = refl;
-        free = (search_law 256 u empty (rw is at law.valid) (lawful_below _ (rw is at law))).1 (empty_law u).1;
-        rest = refl;
-      })
+  -- nothing has a gap where nothing stands
+  fresh_free : (h : Held) → Lawful h.situation → h ≡ fresh u → has_gap h.situation ≡ false
+  fresh_free h law is = rw is ((search_law 256 u empty (rw is at law.valid) (lawful_below _ (rw is at law))).1 (empty_law u).1)
 
-  -- after a line that passes
-  pub passed_more : (i : ℕ) (h k : Held) → i < length xs → Passed u xs i h → Kept h k → line_judged h.situation (get_or xs i 0) ≡ Ok k.situation.config →
-      Passed u xs (i + 1) k
-  passed_more i h k low p kept e = record {
-    large = kept.1 ∙ p.large;
-    free = rw (sym kept.0) at (line_free h.situation (get_or xs i 0) k.situation.config e);
-    rest = ap (λ v. replayed v (i + 1) k.situation.config (drop (i + 1) xs)) kept.0 ∙ turn_more h.situation.universe h.situation.config xs i _ p.rest k.situation.config low e;
+  -- before the first line
+  pub passed_first : (t : Table) → held_of t ≡ fresh u → Passed u xs 0 t
+  passed_first t is = record {
+    large = ap (λ (h : Held). h.limits) is;
+    free = fresh_free (held_of t) (lawful_of t) is;
+    rest = ap (λ (h : Held). replayed h.situation.universe 0 h.situation.config xs) is;
   }
 
-  pub passed_last : (i : ℕ) (h : Held) (e : LineFault) → i < length xs → Passed u xs i h → Err e ≡ answer_of (line_judged h.situation (get_or xs i 0)) →
-      Err (AtLine i e) ≡ replayed u 0 empty xs
-  passed_last i h e low p f = turn_last h.situation.universe h.situation.config xs i _ p.rest e low f
-
-  pub passed_all : (i : ℕ) (h : Held) → length xs ≤ i → Passed u xs i h → Ok tt ≡ replayed u 0 empty xs
-  passed_all i h most p = turn_end h.situation.universe h.situation.config xs i _ p.rest most
+  -- after a line that passes
+  pub passed_more : (i : ℕ) (t t' : Table) → replayed (situation_of t).universe i (situation_of t).config (drop i xs) ≡ replayed u 0 empty xs → i < length xs →
+      line_judged (situation_of t) (get_or xs i 0) ≡ Ok (situation_of t').config → (held_of t).limits ≡ largest →
+      (situation_of t').universe ≡ (situation_of t).universe → (held_of t').limits ≡ (held_of t).limits → Passed u xs (i + 1) t'
+  passed_more i t t' rest low e large same limits = record {
+    large = limits ∙ large;
+    free = rw (sym same) at (line_free (situation_of t) (get_or xs i 0) (situation_of t').config e);
+    rest =
+        ap (λ v. replayed v (i + 1) (situation_of t').config (drop (i + 1) xs)) same
+        ∙ turn_more (situation_of t).universe (situation_of t).config xs i _ rest (situation_of t').config low e;
+  }

@@ -24,14 +24,21 @@ fn judge_empty<S: Survey>(survey: &S) -> Result<(), CheckRefusal>
     Ok(())
 }
 
+// Judges the draft: its number of lines, then that nothing stands in the host, then its lines in the host's universe.
+fn judge_draft<'a, S: Survey>(draft: Draft<'a>, host: &S) -> Result<CheckedPlan<'a>, CheckRefusal>
+    ensures { result ≡ checked (S.situation host.now) draft.entry }
+{
+    judge_length(draft.lines)?;
+    judge_empty(host)?;
+    replay(*host.universe(), draft.lines)?;
+    Ok(CheckedPlan { lines: draft.lines })
+}
+
 // Checks the draft against a host: its lines are replayed from empty in the host's universe. The host is asked as a survey,
 // so it is given no order, and neither waits nor allowances are seen.
 pub fn check<'a, S: Survey>(draft: Draft<'a>, host: &S) -> Result<CheckedPlan<'a>, CheckRefusal>
     ensures answer { result ≡ checked (S.situation host.now) draft.entry }
     ensures law { CheckedUnless (S.situation host.now) draft.entry result }
 {
-    judge_length(draft.lines)?;
-    judge_empty(host)?;
-    replay(*host.universe(), draft.lines)?;
-    Ok(CheckedPlan { lines: draft.lines })
+    judge_draft(draft, host)
 }

@@ -8,7 +8,7 @@ ghost use Rattle.hosts.specs.Answers.{leaves_gap};
 ghost use Rattle.table.specs.Table.{held_of, situation_of};
 ghost use Rattle.checking.specs.Judging.{judged, length_judged, line_judged, order_judged, replayed};
 ghost use Rattle.checking.specs.Passing.{RefusedUnless};
-ghost use Rattle.checking.specs.Replaying.{Kept, answer_of, fault_of_reason, largest};
+ghost use Rattle.checking.specs.Replaying.{Kept, answer_at, answer_of, fault_of_reason, fresh, largest};
 
 use crate::refusal::{CheckRefusal, LineFault};
 use hosts::refusal::Reason;
@@ -24,6 +24,13 @@ const LARGEST: Limits = Limits {
     instances: 256,
     bindings: 2048,
 };
+
+// An empty table of the universe, as large as a table can be.
+fn fresh_table(universe: Universe) -> Table
+    ensures { held_of result ≡ fresh (universe_in universe) }
+{
+    Table::open(universe, LARGEST)
+}
 
 // Whether the order leaves a gap, where nothing has one and the order has no offence: it is looked for where the order
 // can open one.
@@ -81,6 +88,17 @@ fn replay_line(table: &mut Table, line: u32) -> Result<(), LineFault>
     replay_order(table, order)
 }
 
+// Applies the order of the line at the place, or refuses it there.
+fn replay_at(table: &mut Table, place: usize, line: u32) -> Result<(), CheckRefusal>
+    requires largest { (held_of table.old).limits ≡ largest }
+    requires gap_free { has_gap (situation_of table.old) ≡ false }
+    ensures answer { result ≡ answer_at place (line_judged (situation_of table.old) line) }
+    ensures stands { IfOk result (λ _. line_judged (situation_of table.old) line ≡ Ok (situation_of table.new).config) }
+    ensures kept { Kept (held_of table.old) (held_of table.new) }
+{
+    replay_line(table, line).map_err(|fault| CheckRefusal::AtLine { place, fault })
+}
+
 // Refused where there are no lines, or too many.
 pub(crate) fn judge_length(lines: &[u32]) -> Result<(), CheckRefusal>
     ensures { result ≡ length_judged lines.now }
@@ -96,9 +114,9 @@ pub(crate) fn judge_length(lines: &[u32]) -> Result<(), CheckRefusal>
 pub(crate) fn replay(universe: Universe, lines: &[u32]) -> Result<(), CheckRefusal>
     ensures { result ≡ replayed (universe_in universe) 0 empty lines.now }
 {
-    let mut table = Table::open(universe, LARGEST);
+    let mut table = fresh_table(universe);
     for (place, line) in lines.iter().enumerate() {
-        replay_line(&mut table, *line).map_err(|fault| CheckRefusal::AtLine { place, fault })?;
+        replay_at(&mut table, place, *line)?;
     }
     Ok(())
 }

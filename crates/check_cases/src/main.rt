@@ -1,0 +1,129 @@
+// Worked cases of checks. Each row of a table has a universe and a draft, or a universe, the orders that a
+// cloud of it is given first, and a draft; the program prints what the check answers, and what then stands
+// in the cloud. Its expected output is made by another implementation of the rules, tools/reference.py.
+#![tactic(auto)]
+
+use check_text::{answer_line, check_report};
+use checking::check::check;
+use checking::stages::Draft;
+use cloud::Cloud;
+use console::failure::Failure;
+use console::hex::parse_hex;
+use console::report::read_universe;
+use hosts::host::give;
+use hosts::survey::Survey;
+use lines::decode;
+use rows::show_table;
+use scripts::script_lines;
+use table::limits::Limits;
+use text::parse_number;
+use universe::held::Universe;
+
+// The largest limits of a cloud.
+const LARGEST: Limits = Limits {
+    instances: 256,
+    bindings: 2048,
+};
+
+// What a call made, or none where it was refused.
+fn unless_refused<T, E>(made: Result<T, Failure<E>>) -> anyhow::Result<Option<T>> {
+    match made {
+        Ok(value) => Ok(Some(value)),
+        Err(failure) => {
+            failure.into_refusal()?;
+            Ok(None)
+        }
+    }
+}
+
+// The bytes of a word in hexadecimal digits.
+fn word_bytes(rt: &HostRuntime, word: &str) -> anyhow::Result<Option<Vec<u8>>> {
+    unless_refused(parse_hex(rt.alloc(), word.as_bytes()))
+}
+
+// The lines that digits write.
+fn digit_lines(rt: &HostRuntime, digits: &str) -> anyhow::Result<Option<Vec<u32>>> {
+    match word_bytes(rt, digits)? {
+        Some(bytes) => unless_refused(script_lines(rt.alloc(), &bytes)),
+        None => Ok(None),
+    }
+}
+
+// The lines of a word: its segments have plus signs between them, and each is digits, which may have a
+// star and a count behind them, how often their lines come; a dash is no lines.
+fn word_lines(rt: &HostRuntime, word: &str) -> anyhow::Result<Option<Vec<u32>>> {
+    let mut script = Vec::new(rt.alloc());
+    if word == "-" {
+        return Ok(Some(script));
+    }
+    for segment in word.split('+') {
+        let (digits, count) = segment.split_once("*").unwrap_or((segment, "1"));
+        let (Some(lines), Some(count)) = (digit_lines(rt, digits)?, parse_number(count.as_bytes()))
+        else {
+            return Ok(None);
+        };
+        for _ in 0..count {
+            script.extend_from_slice(&lines)?;
+        }
+    }
+    Ok(Some(script))
+}
+
+// Prints an answer, or its refusal.
+fn print_answer(rt: &HostRuntime, answer: Result<String, Failure<String>>) -> anyhow::Result<()> {
+    Ok(rt.print(answer.or_else(Failure::into_refusal)?)?)
+}
+
+// The check of the draft against a cloud of the universe that was given the orders, and what then stands in it.
+fn show_check(
+    rt: &HostRuntime,
+    universe: Universe,
+    orders: &[u32],
+    draft: &[u32],
+) -> anyhow::Result<()> {
+    let mut cloud = Cloud::open(universe, LARGEST, 0);
+    for line in orders {
+        if let Ok(order) = decode(*line) {
+            // A refused order changes nothing, and is passed over.
+            let _ = give(&mut cloud, order);
+        }
+    }
+    let answer = check(Draft { lines: draft }, &cloud).map(|_| ());
+    print_answer(rt, answer_line(rt.alloc(), draft.len(), answer))?;
+    Ok(println!(rt;
+        "instances {}, bindings {}",
+        cloud.instances(),
+        cloud.bindings()
+    )?)
+}
+
+// A row with a universe and a draft, which have a blank between them.
+fn show_draft(rt: &HostRuntime, row: &str) -> anyhow::Result<()> {
+    let (universe, draft) = row.split_once(" ").unwrap_or((row, ""));
+    let (Some(universe), Some(draft)) = (word_bytes(rt, universe)?, word_lines(rt, draft)?) else {
+        return Ok(println!(rt; "a row that cannot be read")?);
+    };
+    print_answer(rt, check_report(rt.alloc(), &universe, &draft))
+}
+
+// A row with a universe, orders and a draft, which have blanks between them.
+fn show_standing(rt: &HostRuntime, row: &str) -> anyhow::Result<()> {
+    let (universe, rest) = row.split_once(" ").unwrap_or((row, ""));
+    let (orders, draft) = rest.split_once(" ").unwrap_or((rest, ""));
+    let (Some(universe), Some(orders), Some(draft)) = (
+        word_bytes(rt, universe)?,
+        word_lines(rt, orders)?,
+        word_lines(rt, draft)?,
+    ) else {
+        return Ok(println!(rt; "a row that cannot be read")?);
+    };
+    match read_universe(rt.alloc(), &universe) {
+        Ok(universe) => show_check(rt, universe, &orders, &draft),
+        Err(failure) => Ok(rt.print(failure.into_refusal()?)?),
+    }
+}
+
+fn main(rt: HostRuntime) -> anyhow::Result<()> {
+    show_table(&rt, "drafts", |row| show_draft(&rt, row))?;
+    show_table(&rt, "standing", |row| show_standing(&rt, row))
+}
