@@ -9,7 +9,7 @@ use Rattle.hosts.specs.Survey.{Lawful, bindings_of}
 use Rattle.hosts.specs.Service.{Sane}
 use Rattle.hosts.specs.Answers.{Answer, Meaning, is_bind, is_create, reason_of}
 use Rattle.hosts.specs.Laws.{Expected, InRange}
-use Rattle.execution.specs.Steps.{Step, Steps, begun, reached}
+use Rattle.execution.specs.Steps.{Progress, Step, Steps, begun, leases, reached}
 
 -- where a run of the script may start: the host keeps its two laws, what stands is well formed and gap-free, and from
 -- there the script is a run with its numbers in range
@@ -26,25 +26,32 @@ abbrev pub AsExpected : Option Answer → Type 0
 AsExpected None = Unit {0}
 AsExpected (Some r) = Expected (reason_of r)
 
--- what holds after every step of a run that started at m: nothing has a gap; the answer was done, busy or full, if there
--- was one; the bindings made less those ended are those that stand less those that stood; and what stands is what the
--- lines before the place lead to
-pub record Holds (os : List Order) (m : Meaning) (t : Step) : Type 0 where
-  pub gap_free : GapFree t.after.host.situation.universe t.after.host.situation.config
-  pub answer : AsExpected t.answer
-  pub leases : t.after.made + bindings_of m.situation ≡ bindings_of t.after.host.situation + t.after.ended
-  pub stands : t.after.host.situation ≡ record { universe = m.situation.universe; config = after m.situation.config (take t.after.place os) }
+-- what holds wherever a run from m has come: what stands is what the lines before the place lead to, and nothing has a gap;
+-- bindings made less those ended are those that stand less those that stood; so where none stood, the leases are the
+-- bindings that stand
+pub record Sound (os : List Order) (m : Meaning) (a : Progress) : Type 0 where
+  pub place : a.place ≤ length os
+  pub stands : a.host.situation ≡ record { universe = m.situation.universe; config = after m.situation.config (take a.place os) }
+  pub gap_free : GapFree a.host.situation.universe a.host.situation.config
+  pub counted : a.made + bindings_of m.situation ≡ bindings_of a.host.situation + a.ended
+  pub leases : bindings_of m.situation ≡ 0 → leases a ≡ bindings_of a.host.situation
 
--- whatever the host, after every step of every run from a start all of this holds
+-- whatever the host, after every step of every run from a start all of this holds, and the answer, if there was one, was
+-- done, busy or full
 abbrev pub StepsLaw : Type 0
-StepsLaw = (os : List Order) (m : Meaning) (ts : List Step) → Start os m → Steps os (begun m) ts → All (Holds os m) ts
+StepsLaw =
+    (os : List Order) (m : Meaning) (ts : List Step) → Start os m → Steps os (begun m) ts →
+    All (λ t. Sound os m t.after × AsExpected t.answer) ts
 
 -- the allowances cover the script: they are at least its creates and its binds
 abbrev pub CoversAll : List Order → Load → Type 0
 CoversAll os l = (count_by is_create os ≤ l.creations) × (count_by is_bind os ≤ l.bindings)
 
--- where the allowances cover the script, lines × (longest wait + 1) steps or more end behind the last line
+-- where the allowances cover the script, lines × (longest wait + 1) steps or more end behind the last line, and what stands
+-- is what all lines lead to
 abbrev pub EndsLaw : Type 0
 EndsLaw =
     (os : List Order) (m : Meaning) (ts : List Step) → Start os m → Steps os (begun m) ts → CoversAll os m.service.load →
-    length os * (m.service.profile.longest + 1) ≤ length ts → (reached (begun m) ts).place ≡ length os
+    length os * (m.service.profile.longest + 1) ≤ length ts →
+    ((reached (begun m) ts).place ≡ length os) ×
+    ((reached (begun m) ts).host.situation ≡ record { universe = m.situation.universe; config = after m.situation.config os })
