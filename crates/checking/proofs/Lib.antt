@@ -1,2 +1,6 @@
 pub mod Orders
 pub mod Turns
+pub mod Stepping
+pub mod Judged
+pub mod Emptied
+pub mod Checked
