@@ -1,14 +1,14 @@
 -- The check yields a plan exactly if nothing stands and the lines pass. Assumes nothing.
-use Rattle.std.proofs.Common.{◌≡◌, Bool, true, false, not, Ok, Err, IsOk, is_ok, Result, sym, refl, ap, ◌∙◌}
+use Rattle.std.proofs.Common.{◌≡◌, true, false, not, Ok, Err, IsOk, is_ok, Result, sym, refl, ap, ◌∙◌}
 use mathlib.Core.Bool.{false≢true}
-use Rattle.std.proofs.lemmas.Bool.{not-false, not_from_true}
+use Rattle.std.proofs.lemmas.Bool.{not-false}
 use Rattle.model.specs.Config.{empty}
 use Rattle.hosts.specs.Survey.{Situation, Lawful}
 use Rattle.checking.specs.declared.stages.Draft.{Draft}
 use Rattle.checking.specs.declared.stages.CheckedPlan.{CheckedPlan}
 use Rattle.checking.specs.declared.refusal.CheckRefusal.{CheckRefusal}
 use Rattle.checking.specs.declared.refusal.CheckRefusal.TheVariants.{NotEmpty}
-use Rattle.checking.specs.Judging.{and_then, judged, length_judged, replayed}
+use Rattle.checking.specs.Judging.{length_judged, replayed}
 use Rattle.checking.specs.Passing.{Passes}
 use Rattle.checking.specs.Checking.{CheckedUnless, checked, empty_judged, is_empty, plan_of}
 use Rattle.checking.proofs.Emptied.{empty_law}
@@ -19,7 +19,8 @@ plan_passes : (d : Draft) (r : Result (Unit {0}) CheckRefusal) → IsOk (plan_of
 plan_passes d (Ok tt) e = refl
 plan_passes d (Err x) e = absurd (false≢true e)
 
-passes_plan : (d : Draft) (r : Result (Unit {0}) CheckRefusal) → r ≡ Ok tt → plan_of d r ≡ Ok (record { lines = d.lines })
+passes_plan : (d : Draft) (r : Result (Unit {0}) CheckRefusal) → r ≡ Ok tt →
+    plan_of d r ≡ Ok (record { lines = d.lines })
 passes_plan d r e = rw e
 
 module _ (s : Situation) (d : Draft) (law : Lawful s) where
@@ -28,8 +29,7 @@ module _ (s : Situation) (d : Draft) (law : Lawful s) where
   checked_passes e =
       let a = both_pass (length_judged d.lines.now) _ (plan_passes d _ e) in
       let b = both_pass (empty_judged s) (replayed s.universe 0 empty d.lines.now) a.1 in
-      let none = not-false (is_empty s) (not_refused (not (is_empty s)) NotEmpty b.0) in
-      (
+      let none = not-false (is_empty s) (not_refused (not (is_empty s)) NotEmpty b.0) in (
         (empty_law s law).0 none,
         judged_passes s.universe d.lines.now law.valid (pass_both _ _ a.0 b.1),
       )
@@ -37,11 +37,13 @@ module _ (s : Situation) (d : Draft) (law : Lawful s) where
   -- where nothing stands and the lines pass, the plan has the lines of the draft
   pub passes_checked : s.config ≡ empty → Passes s.universe d.lines.now → checked s d ≡ Ok (record { lines = d.lines })
   passes_checked e p =
-      let a = both_pass (length_judged d.lines.now) (replayed s.universe 0 empty d.lines.now) (passes_judged s.universe d.lines.now law.valid p) in
+      let a = both_pass (length_judged d.lines.now) _ (passes_judged s.universe d.lines.now law.valid p) in
       let none = (empty_law s law).1 e in
       passes_plan d _ (pass_both _ _ a.0 (pass_both (empty_judged s) _ (rw none) a.1))
 
-pub checked_unless : (s : Situation) (d : Draft) → Lawful s → (r : Result CheckedPlan CheckRefusal) → r ≡ checked s d → CheckedUnless s d r
+-- a survey's check yields a plan exactly if nothing stands and the lines pass
+pub checked_unless : (s : Situation) (d : Draft) → Lawful s → (r : Result CheckedPlan CheckRefusal) → r ≡ checked s d →
+    CheckedUnless s d r
 checked_unless s d law r is = (
   (λ e. checked_passes s d law (ap is_ok (sym is) ∙ e)),
   (λ p. ap is_ok (is ∙ passes_checked s d law p.0 p.1)),

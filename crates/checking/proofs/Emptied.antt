@@ -1,5 +1,5 @@
--- Nothing stands exactly if the counts are 0. Assumes nothing.
-use Rattle.std.proofs.Common.{◌≡◌, ℕ, zero, suc, ◌<◌, Bool, true, false, ◌&&◌, eqb, None, Some, Option, sym, refl, ap₂, ap, ◌∙◌, inl, inr, arith}
+-- Nothing stands in a survey exactly if its counts are 0. Assumes nothing.
+use Rattle.std.proofs.Common.{◌≡◌, ℕ, zero, suc, ◌<◌, Bool, true, false, eqb, None, Some, Option, sym, refl, ap₂, ap, ◌∙◌, inl, inr, arith}
 use mathlib.Core.Bool.{false≢true}
 use Rattle.std.proofs.Math.Path.{fun_ext}
 use Rattle.std.proofs.lemmas.Bool.{and_from, and_parts, both_ways, cases_lt, eq-eqb, eqb-true}
@@ -22,10 +22,12 @@ sum_zero f (suc n) h y low =
       | inr ge ↦ let same : y ≡ n = omega arith in ap f same ∙ (omega arith)
     ]
 
+-- what counts as 0 does not pass
 one_zero : (b : Bool) → one b ≡ 0 → b ≡ false
 one_zero true e = absurd (omega arith)
 one_zero false e = refl
 
+-- where nothing is said to stand, nothing stands
 nothing_stands : (o : Option Pair) → stands o ≡ false → o ≡ None
 nothing_stands None e = refl
 nothing_stands (Some h) e = absurd (false≢true (sym e))
@@ -36,7 +38,8 @@ unfolding instances
 instances_zero n c e z low = nothing_stands (c.inst z) (one_zero _ (sum_zero _ n e z low))
 
 -- no binding counted, none that stands below the bounds
-bindings_zero : (m n : ℕ) (c : Config) → bindings m n c ≡ 0 → (p x y : ℕ) → p < m → x < n → y < n → c.bound p x y ≡ false
+bindings_zero : (m n : ℕ) (c : Config) → bindings m n c ≡ 0 → (p x y : ℕ) → p < m → x < n → y < n →
+    c.bound p x y ≡ false
 unfolding bindings
 bindings_zero m n c e p x y lp lx ly = one_zero _ (sum_zero _ n (sum_zero _ n (sum_zero _ m e p lp) x lx) y ly)
 
@@ -47,6 +50,7 @@ same_empty c e f =
     ap₂ of (fun_ext e) (fun_ext (λ p. fun_ext (λ x. fun_ext (f p x))))
 
 module _ (s : Situation) (law : Lawful s) where
+  -- no instance counted, none that stands
   none_stands : instances_of s ≡ 0 → (z : ℕ) → s.config.inst z ≡ None
   none_stands e z =
       elim (cases_lt z 256) [
@@ -54,6 +58,7 @@ module _ (s : Situation) (law : Lawful s) where
         | inr out ↦ law.inst z out
       ]
 
+  -- no binding counted, none that stands
   none_bound : bindings_of s ≡ 0 → (p x y : ℕ) → s.config.bound p x y ≡ false
   none_bound e p x y =
       refuted _ (λ b.
@@ -73,5 +78,6 @@ empty_counted s e =
     let unbound = ap (bindings 32 256) e ∙ bindings_none 32 256 empty (λ p x y. refl) in
     and_from _ _ (eq-eqb _ _ none) (eq-eqb _ _ unbound)
 
+-- in a survey, the counts are 0 exactly where nothing stands
 pub empty_law : EmptyLaw
 empty_law s law = (counted_empty s law, empty_counted s)

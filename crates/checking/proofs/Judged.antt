@@ -1,8 +1,7 @@
--- Lines are judged good exactly if they pass: if they tell a run in range with at most 2,048 bindings at every place.
--- Assumes nothing.
-use Rattle.std.proofs.Common.{◌≡◌, ℕ, suc, ◌≤◌, Bool, true, false, ◌||◌, ltb, List, [], ◌∷◌, ◌++◌, length, map, Ok, Err, Result, sym, refl, ap, ap₂, ◌∙◌, subst, arith}
+-- Lines are judged good exactly if they pass. Assumes nothing.
+use Rattle.std.proofs.Common.{◌≡◌, ℕ, suc, ◌≤◌, Bool, true, false, ltb, List, [], ◌∷◌, ◌++◌, length, map, Ok, Err, Result, sym, refl, ap, ◌∙◌, subst}
 use Rattle.std.specs.List.{All}
-use Rattle.std.proofs.lemmas.Bool.{le-ltb, ltb-false, or_from, or_parts}
+use Rattle.std.proofs.lemmas.Bool.{le-ltb, ltb-false, or_parts}
 use Rattle.std.proofs.lemmas.List.Elements.{All-cons, All-head, All-nil, All-tail}
 use Rattle.model.specs.declared.order.Order.{Order}
 use Rattle.model.specs.Universe.{Universe, Valid}
@@ -10,7 +9,6 @@ use Rattle.model.specs.Config.{Config, empty}
 use Rattle.model.specs.Counts.{bindings}
 use Rattle.model.specs.Orders.{result_of}
 use Rattle.model.specs.Runs.{RunsFrom, after}
-use Rattle.lines.specs.declared.refusal.LineRefusal.{LineRefusal}
 use Rattle.lines.specs.Line.{decoded}
 use Rattle.hosts.specs.Laws.{InRange}
 use Rattle.universe.specs.declared.held.Universe.{Universe as Held}
@@ -20,7 +18,7 @@ use Rattle.checking.specs.declared.refusal.LineFault.{LineFault}
 use Rattle.checking.specs.declared.refusal.CheckRefusal.{CheckRefusal}
 use Rattle.checking.specs.declared.refusal.CheckRefusal.TheVariants.{Length}
 use Rattle.checking.specs.Judging.{after_line, and_then, judged, length_judged, line_judged, refused_if, replayed, situation}
-use Rattle.checking.specs.Passing.{Passes, PassesAs, RefusedUnless}
+use Rattle.checking.specs.Passing.{Passes, RefusedUnless}
 use Rattle.checking.proofs.Stepping.{Good, Stands, empty_stands, good_line, line_good, never}
 
 -- the lines pass as these orders, from c on
@@ -35,8 +33,8 @@ cons_parts : {X : Type 0} (x y : X) (xs ys : List X) → x ∷ xs ≡ y ∷ ys �
 cons_parts x y xs ys e = (cc, cc)
 
 -- where the lines from a place on are good, the first is, and so are the others from what stands after it
-line_passes : (place : ℕ) (r : Result Config LineFault) (rest : Config → Result (Unit {0}) CheckRefusal) → after_line place r rest ≡ Ok tt →
-    (d : Config) × (r ≡ Ok d) × (rest d ≡ Ok tt)
+line_passes : (place : ℕ) (r : Result Config LineFault) (rest : Config → Result (Unit {0}) CheckRefusal) →
+    after_line place r rest ≡ Ok tt → (d : Config) × (r ≡ Ok d) × (rest d ≡ Ok tt)
 line_passes place (Ok d) rest h = (d, refl, h)
 line_passes place (Err e) rest h = never cc
 
@@ -106,6 +104,7 @@ pub both_pass : (a b : Result (Unit {0}) CheckRefusal) → and_then a b ≡ Ok t
 both_pass (Ok tt) b e = (refl, e)
 both_pass (Err x) b e = never cc
 
+-- two tests in a row: where both pass, neither refuses
 pub pass_both : (a b : Result (Unit {0}) CheckRefusal) → a ≡ Ok tt → b ≡ Ok tt → and_then a b ≡ Ok tt
 pass_both a b p q = rw p q
 
@@ -114,11 +113,13 @@ pub not_refused : (b : Bool) (e : CheckRefusal) → refused_if b e (Ok (tt {0}))
 not_refused true e h = never cc
 not_refused false e h = refl
 
+-- where the number of lines is not refused, there are so many
 sized : (xs : List ℕ) → length_judged xs ≡ Ok tt → Sized xs
 sized xs e =
     let p = or_parts (ltb (length xs) 1) (ltb 32768 (length xs)) (not_refused _ Length e) in
     (ltb-false (length xs) 1 p.0, ltb-false 32768 (length xs) p.1)
 
+-- and so many are not refused
 length_passes : (xs : List ℕ) → Sized xs → length_judged xs ≡ Ok tt
 length_passes xs (some, few) = rw (le-ltb (length xs) 1 some, le-ltb 32768 (length xs) few)
 
@@ -133,7 +134,8 @@ judged_passes u xs ok e =
 -- lines that pass are judged good
 pub passes_judged : (u : Universe) (xs : List ℕ) → Valid u → Passes u xs → judged u xs ≡ Ok tt
 passes_judged u xs ok (os, p) =
-    let from : PassesFrom u empty xs os = record { told = p.told; run = p.run; range = p.range; bindings = p.bindings } in
+    let from : PassesFrom u empty xs os =
+    record { told = p.told; run = p.run; range = p.range; bindings = p.bindings } in
     pass_both (length_judged xs) (replayed u 0 empty xs) (length_passes xs (p.some, p.few))
     (passes_replayed u xs os 0 empty (empty_stands u ok) from)
 
@@ -143,3 +145,8 @@ pub refused_unless : (h : Held) (xs : List ℕ) (r : Result (Unit {0}) CheckRefu
 refused_unless h xs r is =
     let ok = (sound h.tables h.sound).valid in
     ((λ e. judged_passes (universe_in h) xs ok (sym is ∙ e)), (λ p. is ∙ passes_judged (universe_in h) xs ok p))
+
+-- the same of what replaying them tells, where their number is not refused
+pub refused_after : (h : Held) (xs : List ℕ) (r : Result (Unit {0}) CheckRefusal) → length_judged xs ≡ Ok tt →
+    r ≡ replayed (universe_in h) 0 empty xs → RefusedUnless (universe_in h) xs r
+refused_after h xs r e is = refused_unless h xs r (is ∙ sym (rw e))
