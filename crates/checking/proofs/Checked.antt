@@ -1,5 +1,5 @@
 -- The check yields a plan exactly if nothing stands and the lines pass. Assumes nothing.
-use Rattle.std.proofs.Common.{◌≡◌, true, false, not, Ok, Err, IsOk, is_ok, Result, sym, refl, ap, ◌∙◌}
+use Rattle.std.proofs.Common.{◌≡◌, not, Ok, Err, IsOk, is_ok, Result, sym, refl, ap, ◌∙◌}
 use mathlib.Core.Bool.{false≢true}
 use Rattle.std.proofs.lemmas.Bool.{not-false}
 use Rattle.model.specs.Config.{empty}

@@ -1,11 +1,10 @@
 -- What the table tells of an order is what is judged of it. Assumes nothing.
-use Rattle.std.proofs.Common.{◌≡◌, ℕ, ◌-◌, ◌<◌, ◌≤◌, Bool, true, false, ◌&&◌, ltb, leb, eqb, Some, None, Ok, Err, Option, Result, sym, refl, ap, ◌∙◌, subst, arith}
+use Rattle.std.proofs.Common.{◌≡◌, ℕ, ◌-◌, ◌≤◌, Bool, true, false, ◌&&◌, leb, eqb, Some, None, Ok, Err, Option, Result, sym, refl, ap, ◌∙◌, subst, arith}
 use mathlib.Core.Bool.{false≢true}
 use Rattle.std.proofs.lemmas.Bool.{eqb-false, eqb-true, le-leb, lt-leb}
 use Rattle.model.specs.declared.order.Order.{Order}
 use Rattle.model.specs.declared.order.Order.TheVariants.{Create, Bind, Change, Unbind, Delete}
-use Rattle.model.specs.Config.{Config, stands}
-use Rattle.model.specs.Counts.{instances}
+use Rattle.model.specs.Config.{Config}
 use Rattle.model.specs.Gaps.{GapFree}
 use Rattle.model.specs.Orders.{result_of}
 use Rattle.model.proofs.Counting.{create_counts, instances_most}
@@ -14,7 +13,7 @@ use Rattle.model.proofs.Openings.{opening_law}
 use Rattle.hosts.specs.declared.refusal.Offence.{Offence}
 use Rattle.hosts.specs.declared.refusal.Reason.{Reason}
 use Rattle.hosts.specs.declared.refusal.Reason.TheVariants.{Busy, Gap as Gapped, Full, Illegal as Illegally}
-use Rattle.hosts.specs.Survey.{Situation, Lawful, bindings_of, has_gap, instances_of}
+use Rattle.hosts.specs.Survey.{Situation, Lawful, bindings_of, has_gap}
 use Rattle.hosts.specs.Offences.{offence, refused_if as told_if}
 use Rattle.hosts.specs.Answers.{illegal_or, full_test, is_bind, is_tested, leaves_gap}
 use Rattle.hosts.proofs.Offending.{lawful_after, lawful_below, offence_none}
