@@ -26,7 +26,7 @@ const LARGEST: Limits = Limits {
 };
 
 // What a call made, or none where it was refused.
-fn unless_refused<T, E>(made: Result<T, Failure<E>>) -> anyhow::Result<Option<T>> {
+fn unless_refused<T, E: Drop>(made: Result<T, Failure<E>>) -> anyhow::Result<Option<T>> {
     match made {
         Ok(value) => Ok(Some(value)),
         Err(failure) => {
