@@ -50,7 +50,7 @@ decided o k (Some x) law e =
     }
 
 -- what the cloud answers is what a host answers
-answers : (o : Order) (k : CloudState) → Lawful k.held.situation → k.waits ≤ k.delay → Answered o (meaning_of k) (meaning_of (cloud_after o k)) (cloud_answer (cloud_rule o k))
+pub answers : (o : Order) (k : CloudState) → Lawful k.held.situation → k.waits ≤ k.delay → Answered o (meaning_of k) (meaning_of (cloud_after o k)) (cloud_answer (cloud_rule o k))
 answers o k law most =
     elim (put_off_or_not k.waits) [
       | inl l ↦ rw (lt-ltb 0 k.waits l)

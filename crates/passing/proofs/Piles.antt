@@ -1,8 +1,113 @@
--- To be proved. Assumes nothing.
-use Rattle.passing.specs.Laws.{PileStartLaw, PileRunsLaw}
+-- Fresh piles are starts, and what they do gives runs. Assumes nothing.
+use Rattle.std.proofs.Common.{◌≡◌, ℕ, zero, suc, ◌≤◌, true, false, List, length, Some, None, Ok, Err, Option, slice_get, sym, refl, ap, ◌∙◌, subst, inl, inr, arith}
+use mathlib.Core.Bool.{false≢true}
+use Rattle.std.proofs.lemmas.Bool.{cases_Bool}
+use Rattle.model.specs.declared.order.Order.{Order}
+use Rattle.model.specs.Universe.{Universe, Valid}
+use Rattle.hosts.specs.Survey.{Lawful, Situation}
+use Rattle.hosts.specs.Service.{Sane}
+use Rattle.hosts.specs.Answers.{Answer, Answered, Gives, Meaning}
+use Rattle.hosts.proofs.Deciding.{done_law, kept_law, refused_law}
+use Rattle.hosts.proofs.Offending.{lawful_after}
+use Rattle.cloud.specs.Cloud.{CloudState, meaning_of}
+use Rattle.cloud.proofs.Serving.{answers}
+use Rattle.layers.specs.Verifying.{Relays, stopped, watched_sane}
+use Rattle.layers.proofs.Relaying.{relayed_answers}
+use Rattle.execution.specs.Steps.{Step, Stepped, Steps}
+use Rattle.options.specs.declared.HostOptions.{HostOptions}
+use Rattle.options.specs.declared.Layers.{Layers}
+use Rattle.options.specs.declared.Layers.TheVariants.{None as NoLayer, Verifying, VerifyingTwice}
+use Rattle.piles.specs.Piles.{Pile, cloud_alone, fresh, fresh_cloud_of, pile_of, verifying}
+use Rattle.passing.specs.Piles.{PileProgress, next_progress, pile_begun, pile_step, pile_steps, progress_of}
+use Rattle.passing.specs.Laws.{PileRunsLaw, PileStartLaw}
+use Rattle.passing.proofs.Starting.{start_law}
+
+-- what a cloud holds keeps the law of surveys, and its waits are up to the delay
+record Good (k : CloudState) : Type 0 where
+  pub lawful : Lawful k.held.situation
+  pub waits : k.waits ≤ k.delay
+
+-- a pile is a host: it means what the cloud holds, keeps the law of hosts, and answers as a host does, from all that is
+-- good to what is good
+record IsHost (p : Pile) : Type 0 where
+  pub situation : (k : CloudState) → (p.means k).situation ≡ k.held.situation
+  pub sane : (k : CloudState) → Good k → Sane (p.means k).service
+  pub answers : (o : Order) (k : CloudState) → Good k → Answered o (p.means k) (p.means (p.does o k).after) (p.does o k).answer
+  pub good : (o : Order) (k : CloudState) → Good k → Good (p.does o k).after
+
+-- whatever a host answers, what stands keeps the law of surveys
+lawful_then : (o : Order) (m n : Meaning) (r : Answer) → Lawful m.situation → Answered o m n r → Lawful n.situation
+lawful_then o m n (Ok x) law a = let d = done_law o m n (Ok x) a refl in rw d.2 (lawful_after m.situation law o d.1)
+lawful_then o m n (Err e) law a = rw (refused_law o m n (Err e) e.reason a refl) law
+
+cloud_sane : (k : CloudState) → Good k → Sane (meaning_of k).service
+cloud_sane k g = record { waits = g.waits; height = omega arith }
+
+-- the cloud alone is a host
+cloud_host : IsHost cloud_alone
+cloud_host = record {
+  situation = λ k. refl;
+  sane = cloud_sane;
+  answers = λ o k g. answers o k g.lawful g.waits;
+  good = λ o k g.
+      let a = answers o k g.lawful g.waits in
+      record { lawful = lawful_then o _ _ _ g.lawful a; waits = (kept_law o _ _ _ (cloud_sane k g) a).2.waits };
+}
+
+module _ (p : Pile) (h : IsHost p) where
+  abbrev stands : CloudState → Situation
+  stands k = (p.means k).situation
+
+  -- what a layer does with an order is what it relays
+  relays : (o : Order) (k : CloudState) → Good k →
+      Relays stands (λ j. (p.means j).service) (Gives stands (λ j. (p.means j).service)) o k ((verifying p).does o k).after ((verifying p).does o k).answer
+  relays o k g = record { stops = λ e. rw e (refl, refl); passes = λ e. rw e (h.answers o k g) }
+
+  -- and a layer over a host is a host
+  layer_host : IsHost (verifying p)
+  layer_host = record {
+    situation = h.situation;
+    sane = λ k g. watched_sane (p.means k).service (h.sane k g);
+    answers = λ o k g. relayed_answers stands (λ j. (p.means j).service) o k _ _ (h.sane k g) (relays o k g);
+    good = λ o k g. elim (cases_Bool (stopped o (p.means k))) [ inl e ↦ rw e g | inr e ↦ rw e (h.good o k g) ];
+  }
+
+  -- a step of a pile is a step of a run, and leads from what is good to what is good
+  stepped : (o : Option Order) (a : PileProgress) → Good a.cloud →
+      Stepped o (progress_of p a) (pile_step p o a).answer (pile_step p o a).after × Good (next_progress p o a).cloud ×
+      ((pile_step p o a).after ≡ progress_of p (next_progress p o a))
+  stepped (Some o) a g = (record { host = h.answers o a.cloud g; place = refl; made = refl; ended = refl }, h.good o a.cloud g, refl)
+  stepped None a g = (refl, g, refl)
+
+  -- so its steps are those of a run
+  steps : (os : List Order) (n : ℕ) (a : PileProgress) → Good a.cloud →
+      Steps os (progress_of p a) (pile_steps p os a n) × (length (pile_steps p os a n) ≡ n)
+  unfolding Steps pile_steps
+  steps os zero a g = (tt, refl)
+  steps os (suc n) a g =
+      let s = stepped (slice_get os a.place) a g in
+      let t = steps os n (next_progress p (slice_get os a.place) a) s.1 in
+      ((s.0, rw s.2 t.0), omega (arith, t.1))
+
+-- every pile is a host
+pile_host : (l : Layers) → IsHost (pile_of l)
+pile_host NoLayer = cloud_host
+pile_host Verifying = layer_host _ cloud_host
+pile_host VerifyingTwice = layer_host _ (layer_host _ cloud_host)
+
+-- a fresh cloud is good
+fresh_good : (u : Universe) (o : HostOptions) → Valid u → Good (fresh_cloud_of u o)
+fresh_good u o ok = record {
+  lawful = record { valid = ok; inst = λ z out. refl; bound = λ p x y b. absurd (false≢true b) };
+  waits = omega arith;
+}
 
 pub pile_start_law : PileStartLaw
-pile_start_law = ?
+pile_start_law u o xs os ok passes =
+    let h = pile_host o.layers in
+    let g = fresh_good u o ok in
+    let is = h.situation (fresh_cloud_of u o) in
+    start_law xs os (fresh u o) (rw is g.lawful) (h.sane _ g) (ap (λ (s : Situation). s.config) is) (rw is passes)
 
 pub pile_runs_law : PileRunsLaw
-pile_runs_law = ?
+pile_runs_law u o os n ok = steps (pile_of o.layers) (pile_host o.layers) os n (pile_begun (fresh_cloud_of u o)) (fresh_good u o ok)

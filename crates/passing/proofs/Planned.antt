@@ -1,8 +1,107 @@
--- To be proved. Assumes nothing.
-use Rattle.passing.specs.Laws.{PlannedPassesLaw, PlannedCheckedLaw}
+-- The planner's scripts pass, so the check passes them on every empty host. Assumes nothing.
+use Rattle.std.proofs.Common.{◌≡◌, ℕ, ◌<◌, ◌≤◌, Bool, true, false, ◌&&◌, cond, List, [], ◌∷◌, ◌++◌, length, map, take, Some, None, Ok, Err, Result, sym, refl, ap, ◌∙◌, arith}
+use Rattle.std.specs.List.{All}
+use Rattle.std.specs.Result.{IsOk}
+use Rattle.std.proofs.lemmas.List.{length-map}
+use Rattle.std.proofs.lemmas.List.Elements.{All-weaker}
+use Rattle.model.specs.declared.pair.Pair.{Pair}
+use Rattle.model.specs.declared.order.Order.{Order}
+use Rattle.model.specs.declared.order.Order.TheVariants.{Create, Bind, Change, Unbind, Delete}
+use Rattle.model.specs.Config.{empty, pair}
+use Rattle.model.specs.Runs.{after}
+use Rattle.model.specs.Universe.{Universe, Valid}
+use Rattle.lines.specs.declared.refusal.LineRefusal.TheVariants.{NotALine}
+use Rattle.lines.specs.Line.{decoded, encoded, fields_of_order, fits, line_of_fields}
+use Rattle.lines.proofs.Packing.{Small, small}
+use Rattle.hosts.specs.Laws.{InRange}
+use Rattle.hosts.specs.Survey.{Situation}
+use Rattle.plans.specs.Goals.{Met}
+use Rattle.plans.specs.Script.{script}
+use Rattle.plans.proofs.Laws.{lines_law, reach_law, size_law}
+use Rattle.planner.specs.declared.refusal.PlanRefusal.{PlanRefusal}
+use Rattle.planner.specs.Goals.{goal_of, pair_of_line}
+use Rattle.planner.specs.Planning.{list_after, plan_answer, planned}
+use Rattle.planner.proofs.Promising.{not_same, planned_is, planned_short, written_told}
+use Rattle.checking.specs.declared.refusal.CheckRefusal.{CheckRefusal}
+use Rattle.checking.specs.declared.stages.Draft.{Draft}
+use Rattle.checking.specs.Checking.{EmptyLaw, checked, is_empty, plan_of}
+use Rattle.checking.specs.Judging.{and_then, judged, length_judged, replayed}
+use Rattle.checking.specs.Passing.{Passes, PassesAs}
+use Rattle.passing.specs.Laws.{PlannedCheckedLaw, PlannedPassesLaw}
 
+-- an order that has a line fits its fields
+encoded_small : (o : Order) → IsOk (encoded o) → Small (fields_of_order o)
+encoded_small o ok = small (fields_of_order o) (by (fits (fields_of_order o)) ok)
+  where
+    by : (b : Bool) → IsOk (cond b (Ok (line_of_fields (fields_of_order o))) (Err NotALine)) → b ≡ true
+    by true ok = refl
+    by false ok = ok
+
+-- so the numbers of its instances are in range
+encoded_range : (o : Order) → IsOk (encoded o) → InRange o
+encoded_range (Create z t) ok = (encoded_small (Create z t) ok).first
+encoded_range (Bind b) ok = let s = encoded_small (Bind b) ok in (s.first, s.second)
+encoded_range (Change z q) ok = (encoded_small (Change z q) ok).first
+encoded_range (Unbind b) ok = let s = encoded_small (Unbind b) ok in (s.first, s.second)
+encoded_range (Delete z) ok = (encoded_small (Delete z) ok).first
+
+-- orders that meet a goal are some
+orders_some : (goal : List Pair) (os : List Order) → 1 ≤ length goal → Met goal (after empty os) → 1 ≤ length os
+unfolding after
+orders_some goal [] some met = let at = (met 0 (pair 0 0) some).1 in not_same cc
+orders_some goal (o ∷ os) some met = omega arith
+
+-- lines that tell orders are as many
+told_length : (xs : List ℕ) (os : List Order) → map decoded xs ≡ map Ok os → length xs ≡ length os
+told_length xs os e = sym (length-map xs decoded) ∙ ap length e ∙ length-map os Ok
+
+-- the planner's lines pass as the orders planned
 pub planned_passes_law : PlannedPassesLaw
-planned_passes_law = ?
+planned_passes_law u goal xs os n ok is answer =
+    let w = planned_is u goal ok os is in
+    let same : length (goal_of goal) ≡ length goal = length-map goal pair_of_line in
+    let size = size_law u (goal_of goal) ok (omega (arith, same, w.0.few)) in
+    let reached = (reach_law u (goal_of goal) ok).0 w.1 in
+    let lines : All (λ o. IsOk (encoded o)) os = rw w.2 (lines_law u (goal_of goal) ok (omega (arith, same, w.0.few))) in
+    let some : 1 ≤ length os = orders_some (goal_of goal) os (omega (arith, same, w.0.some)) (rw w.2 reached.1) in
+    let short = planned_short u goal ok os is in
+    let told : map decoded (take n (list_after (planned u goal) xs)) ≡ map Ok os =
+    rw is (written_told u goal ok xs os n lines (rw is at answer)) in
+    let long = told_length _ os told in
+    record {
+      some = omega (arith, long, some);
+      few = omega (arith, long, short);
+      told = told;
+      run = rw w.2 reached.0;
+      range = All-weaker (λ o. IsOk (encoded o)) InRange encoded_range os lines;
+      bindings = λ before rest e. omega (arith, size.2 before rest (sym w.2 ∙ e) 32 256);
+    }
+
+-- lines that pass are not refused
+passes_judged : (u : Universe) (xs : List ℕ) → Valid u → Passes u xs → judged u xs ≡ Ok tt
+passes_judged u xs ok p = ?
+
+empty_law : EmptyLaw
+empty_law = ?
+
+-- lines that are not refused are few enough, and replayed to the end
+both_judged : (r q : Result (Unit {0}) CheckRefusal) → and_then r q ≡ Ok tt → (r ≡ Ok tt) × (q ≡ Ok tt)
+both_judged (Ok tt) q e = (refl, e)
+both_judged (Err x) q e = not_same cc
+
+-- where nothing stands, lines that are not refused are passed
+judged_checked : (s : Situation) (d : Draft) → is_empty s ≡ true → s.config ≡ empty → judged s.universe d.lines.now ≡ Ok tt →
+    checked s d ≡ Ok (record { lines = d.lines })
+judged_checked s d none is e =
+    let parts = both_judged (length_judged d.lines.now) (replayed s.universe 0 empty d.lines.now) e in
+    rw (parts.0, none, parts.1) refl
 
 pub planned_checked_law : PlannedCheckedLaw
-planned_checked_law = ?
+planned_checked_law s goal xs n d law is answer lines = by (planned s.universe goal) refl answer
+  where
+    by : (p : Result (List Order) PlanRefusal) → planned s.universe goal ≡ p → plan_answer p (length xs) ≡ Ok n →
+        checked s d ≡ Ok (record { lines = d.lines })
+    by (Err x) e answered = not_same cc
+    by (Ok os) e answered =
+        let passes : PassesAs s.universe d.lines.now os = rw lines (planned_passes_law s.universe goal xs os n law.valid e answer) in
+        judged_checked s d ((empty_law s law).1 is) is (passes_judged s.universe d.lines.now law.valid (os, passes))

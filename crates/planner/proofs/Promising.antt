@@ -96,7 +96,7 @@ module _ (u : Universe) (bs : List ℕ) (ok : Valid u) where
   in_reach = list_all (listed (closing u)) (goal_of bs)
 
   -- what is planned is the script for a goal in reach
-  planned_is : (os : List Order) → planned u bs ≡ Ok os → IsGoal u bs × (in_reach ≡ true) × (os ≡ script u (goal_of bs))
+  pub planned_is : (os : List Order) → planned u bs ≡ Ok os → IsGoal u bs × (in_reach ≡ true) × (os ≡ script u (goal_of bs))
   planned_is os e = by (goal_checked u bs) refl in_reach refl e
     where
       by : (c : Result (Unit {0}) PlanRefusal) → goal_checked u bs ≡ c → (b : Bool) → in_reach ≡ b →
@@ -153,7 +153,7 @@ module _ (u : Universe) (bs : List ℕ) (ok : Valid u) where
           (out_planned g (refuted in_reach (λ reach. none (script u (goal_of bs)) ((reach_law u (goal_of bs) ok).0 reach))))
 
   -- what is written is told
-  written_told : (xs : List ℕ) (os : List Order) (n : ℕ) → All (λ o. IsOk (encoded o)) os → plan_answer (Ok os) (length xs) ≡ Ok n →
+  pub written_told : (xs : List ℕ) (os : List Order) (n : ℕ) → All (λ o. IsOk (encoded o)) os → plan_answer (Ok os) (length xs) ≡ Ok n →
       map decoded (take n (list_after (Ok os) xs)) ≡ map Ok os
   written_told xs os n lines e = by (ltb (length xs) (length os)) refl e
     where
