@@ -1,11 +1,11 @@
 -- Fresh piles are starts, and what they do gives runs. Assumes nothing.
-use Rattle.std.proofs.Common.{◌≡◌, ℕ, zero, suc, ◌≤◌, true, false, List, length, Some, None, Ok, Err, Option, slice_get, sym, refl, ap, ◌∙◌, subst, inl, inr, arith}
+use Rattle.std.proofs.Common.{◌≡◌, ℕ, zero, suc, ◌≤◌, List, length, Some, None, Ok, Err, Option, slice_get, refl, ap, inl, inr, arith}
 use mathlib.Core.Bool.{false≢true}
 use Rattle.std.proofs.lemmas.Bool.{cases_Bool}
 use Rattle.model.specs.declared.order.Order.{Order}
 use Rattle.model.specs.Universe.{Universe, Valid}
 use Rattle.hosts.specs.Survey.{Lawful, Situation}
-use Rattle.hosts.specs.Service.{Sane}
+use Rattle.hosts.specs.Service.{Sane, Service}
 use Rattle.hosts.specs.Answers.{Answer, Answered, Gives, Meaning}
 use Rattle.hosts.proofs.Deciding.{done_law, kept_law, refused_law}
 use Rattle.hosts.proofs.Offending.{lawful_after}
@@ -13,7 +13,7 @@ use Rattle.cloud.specs.Cloud.{CloudState, meaning_of}
 use Rattle.cloud.proofs.Serving.{answers}
 use Rattle.layers.specs.Verifying.{Relays, stopped, watched_sane}
 use Rattle.layers.proofs.Relaying.{relayed_answers}
-use Rattle.execution.specs.Steps.{Step, Stepped, Steps}
+use Rattle.execution.specs.Steps.{Stepped, Steps}
 use Rattle.options.specs.declared.HostOptions.{HostOptions}
 use Rattle.options.specs.declared.Layers.{Layers}
 use Rattle.options.specs.declared.Layers.TheVariants.{None as NoLayer, Verifying, VerifyingTwice}
@@ -32,7 +32,8 @@ record Good (k : CloudState) : Type 0 where
 record IsHost (p : Pile) : Type 0 where
   pub situation : (k : CloudState) → (p.means k).situation ≡ k.held.situation
   pub sane : (k : CloudState) → Good k → Sane (p.means k).service
-  pub answers : (o : Order) (k : CloudState) → Good k → Answered o (p.means k) (p.means (p.does o k).after) (p.does o k).answer
+  pub answered : (o : Order) (k : CloudState) → Good k →
+      Answered o (p.means k) (p.means (p.does o k).after) (p.does o k).answer
   pub good : (o : Order) (k : CloudState) → Good k → Good (p.does o k).after
 
 -- whatever a host answers, what stands keeps the law of surveys
@@ -40,6 +41,7 @@ lawful_then : (o : Order) (m n : Meaning) (r : Answer) → Lawful m.situation �
 lawful_then o m n (Ok x) law a = let d = done_law o m n (Ok x) a refl in rw d.2 (lawful_after m.situation law o d.1)
 lawful_then o m n (Err e) law a = rw (refused_law o m n (Err e) e.reason a refl) law
 
+-- what a good cloud means keeps the law of hosts
 cloud_sane : (k : CloudState) → Good k → Sane (meaning_of k).service
 cloud_sane k g = record { waits = g.waits; height = omega arith }
 
@@ -48,27 +50,31 @@ cloud_host : IsHost cloud_alone
 cloud_host = record {
   situation = λ k. refl;
   sane = cloud_sane;
-  answers = λ o k g. answers o k g.lawful g.waits;
+  answered = λ o k g. answers o k g.lawful g.waits;
   good = λ o k g.
       let a = answers o k g.lawful g.waits in
       record { lawful = lawful_then o _ _ _ g.lawful a; waits = (kept_law o _ _ _ (cloud_sane k g) a).2.waits };
 }
 
 module _ (p : Pile) (h : IsHost p) where
+  -- the two parts of what the pile means
   abbrev stands : CloudState → Situation
   stands k = (p.means k).situation
 
+  abbrev served : CloudState → Service
+  served k = (p.means k).service
+
   -- what a layer does with an order is what it relays
   relays : (o : Order) (k : CloudState) → Good k →
-      Relays stands (λ j. (p.means j).service) (Gives stands (λ j. (p.means j).service)) o k ((verifying p).does o k).after ((verifying p).does o k).answer
-  relays o k g = record { stops = λ e. rw e (refl, refl); passes = λ e. rw e (h.answers o k g) }
+      let out = (verifying p).does o k in Relays stands served (Gives stands served) o k out.after out.answer
+  relays o k g = record { stops = λ e. rw e (refl, refl); passes = λ e. rw e (h.answered o k g) }
 
   -- and a layer over a host is a host
   layer_host : IsHost (verifying p)
   layer_host = record {
     situation = h.situation;
     sane = λ k g. watched_sane (p.means k).service (h.sane k g);
-    answers = λ o k g. relayed_answers stands (λ j. (p.means j).service) o k _ _ (h.sane k g) (relays o k g);
+    answered = λ o k g. relayed_answers stands served o k _ _ (h.sane k g) (relays o k g);
     good = λ o k g. elim (cases_Bool (stopped o (p.means k))) [ inl e ↦ rw e g | inr e ↦ rw e (h.good o k g) ];
   }
 
@@ -76,7 +82,8 @@ module _ (p : Pile) (h : IsHost p) where
   stepped : (o : Option Order) (a : PileProgress) → Good a.cloud →
       Stepped o (progress_of p a) (pile_step p o a).answer (pile_step p o a).after × Good (next_progress p o a).cloud ×
       ((pile_step p o a).after ≡ progress_of p (next_progress p o a))
-  stepped (Some o) a g = (record { host = h.answers o a.cloud g; place = refl; made = refl; ended = refl }, h.good o a.cloud g, refl)
+  stepped (Some o) a g =
+      (record { host = h.answered o a.cloud g; place = refl; made = refl; ended = refl }, h.good o a.cloud g, refl)
   stepped None a g = (refl, g, refl)
 
   -- so its steps are those of a run
@@ -102,12 +109,15 @@ fresh_good u o ok = record {
   waits = omega arith;
 }
 
+-- a fresh pile means an empty host of the universe
 pub pile_start_law : PileStartLaw
 pile_start_law u o xs os ok passes =
     let h = pile_host o.layers in
-    let g = fresh_good u o ok in
+    let good = fresh_good u o ok in
     let is = h.situation (fresh_cloud_of u o) in
-    start_law xs os (fresh u o) (rw is g.lawful) (h.sane _ g) (ap (λ (s : Situation). s.config) is) (rw is passes)
+    start_law xs os (fresh u o) (rw is good.lawful) (h.sane _ good) (ap (λ (s : Situation). s.config) is) (rw is passes)
 
+-- and its steps are those of a run from there
 pub pile_runs_law : PileRunsLaw
-pile_runs_law u o os n ok = steps (pile_of o.layers) (pile_host o.layers) os n (pile_begun (fresh_cloud_of u o)) (fresh_good u o ok)
+pile_runs_law u o os n ok =
+    let k = fresh_cloud_of u o in steps (pile_of o.layers) (pile_host o.layers) os n (pile_begun k) (fresh_good u o ok)

@@ -1,5 +1,5 @@
 -- The planner's scripts pass, so the check passes them on every empty host. Assumes nothing.
-use Rattle.std.proofs.Common.{◌≡◌, ℕ, ◌<◌, ◌≤◌, Bool, true, false, ◌&&◌, cond, List, [], ◌∷◌, ◌++◌, length, map, take, Some, None, Ok, Err, Result, sym, refl, ap, ◌∙◌, arith}
+use Rattle.std.proofs.Common.{◌≡◌, ℕ, ◌≤◌, Bool, true, false, cond, List, [], ◌∷◌, length, map, take, Ok, Err, Result, sym, refl, ap, ◌∙◌, arith}
 use Rattle.std.specs.List.{All}
 use Rattle.std.specs.Result.{IsOk}
 use Rattle.std.proofs.lemmas.List.{length-map}
@@ -9,24 +9,19 @@ use Rattle.model.specs.declared.order.Order.{Order}
 use Rattle.model.specs.declared.order.Order.TheVariants.{Create, Bind, Change, Unbind, Delete}
 use Rattle.model.specs.Config.{empty, pair}
 use Rattle.model.specs.Runs.{after}
-use Rattle.model.specs.Universe.{Universe, Valid}
 use Rattle.lines.specs.declared.refusal.LineRefusal.TheVariants.{NotALine}
 use Rattle.lines.specs.Line.{decoded, encoded, fields_of_order, fits, line_of_fields}
 use Rattle.lines.proofs.Packing.{Small, small}
 use Rattle.hosts.specs.Laws.{InRange}
-use Rattle.hosts.specs.Survey.{Situation}
 use Rattle.plans.specs.Goals.{Met}
-use Rattle.plans.specs.Script.{script}
 use Rattle.plans.proofs.Laws.{lines_law, reach_law, size_law}
 use Rattle.planner.specs.declared.refusal.PlanRefusal.{PlanRefusal}
 use Rattle.planner.specs.Goals.{goal_of, pair_of_line}
 use Rattle.planner.specs.Planning.{list_after, plan_answer, planned}
 use Rattle.planner.proofs.Promising.{not_same, planned_is, planned_short, written_told}
-use Rattle.checking.specs.declared.refusal.CheckRefusal.{CheckRefusal}
-use Rattle.checking.specs.declared.stages.Draft.{Draft}
-use Rattle.checking.specs.Checking.{EmptyLaw, checked, is_empty, plan_of}
-use Rattle.checking.specs.Judging.{and_then, judged, length_judged, replayed}
-use Rattle.checking.specs.Passing.{Passes, PassesAs}
+use Rattle.checking.specs.Checking.{checked}
+use Rattle.checking.specs.Passing.{PassesAs}
+use Rattle.checking.proofs.Checked.{passes_checked}
 use Rattle.passing.specs.Laws.{PlannedCheckedLaw, PlannedPassesLaw}
 
 -- an order that has a line fits its fields
@@ -60,9 +55,10 @@ pub planned_passes_law : PlannedPassesLaw
 planned_passes_law u goal xs os n ok is answer =
     let w = planned_is u goal ok os is in
     let same : length (goal_of goal) ≡ length goal = length-map goal pair_of_line in
-    let size = size_law u (goal_of goal) ok (omega (arith, same, w.0.few)) in
+    let few : length (goal_of goal) ≤ 16 = omega (arith, same, w.0.few) in
+    let size = size_law u (goal_of goal) ok few in
     let reached = (reach_law u (goal_of goal) ok).0 w.1 in
-    let lines : All (λ o. IsOk (encoded o)) os = rw w.2 (lines_law u (goal_of goal) ok (omega (arith, same, w.0.few))) in
+    let lines : All (λ o. IsOk (encoded o)) os = rw w.2 (lines_law u (goal_of goal) ok few) in
     let some : 1 ≤ length os = orders_some (goal_of goal) os (omega (arith, same, w.0.some)) (rw w.2 reached.1) in
     let short = planned_short u goal ok os is in
     let told : map decoded (take n (list_after (planned u goal) xs)) ≡ map Ok os =
@@ -77,25 +73,7 @@ planned_passes_law u goal xs os n ok is answer =
       bindings = λ before rest e. omega (arith, size.2 before rest (sym w.2 ∙ e) 32 256);
     }
 
--- lines that pass are not refused
-passes_judged : (u : Universe) (xs : List ℕ) → Valid u → Passes u xs → judged u xs ≡ Ok tt
-passes_judged u xs ok p = ?
-
-empty_law : EmptyLaw
-empty_law = ?
-
--- lines that are not refused are few enough, and replayed to the end
-both_judged : (r q : Result (Unit {0}) CheckRefusal) → and_then r q ≡ Ok tt → (r ≡ Ok tt) × (q ≡ Ok tt)
-both_judged (Ok tt) q e = (refl, e)
-both_judged (Err x) q e = not_same cc
-
--- where nothing stands, lines that are not refused are passed
-judged_checked : (s : Situation) (d : Draft) → is_empty s ≡ true → s.config ≡ empty → judged s.universe d.lines.now ≡ Ok tt →
-    checked s d ≡ Ok (record { lines = d.lines })
-judged_checked s d none is e =
-    let parts = both_judged (length_judged d.lines.now) (replayed s.universe 0 empty d.lines.now) e in
-    rw (parts.0, none, parts.1) refl
-
+-- and where nothing stands the check passes them
 pub planned_checked_law : PlannedCheckedLaw
 planned_checked_law s goal xs n d law is answer lines = by (planned s.universe goal) refl answer
   where
@@ -103,5 +81,6 @@ planned_checked_law s goal xs n d law is answer lines = by (planned s.universe g
         checked s d ≡ Ok (record { lines = d.lines })
     by (Err x) e answered = not_same cc
     by (Ok os) e answered =
-        let passes : PassesAs s.universe d.lines.now os = rw lines (planned_passes_law s.universe goal xs os n law.valid e answer) in
-        judged_checked s d ((empty_law s law).1 is) is (passes_judged s.universe d.lines.now law.valid (os, passes))
+        let passes : PassesAs s.universe d.lines.now os =
+        rw lines (planned_passes_law s.universe goal xs os n law.valid e answer) in
+        passes_checked s d law is (os, passes)

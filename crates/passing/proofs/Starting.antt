@@ -1,5 +1,4 @@
 -- What passes can be run on every empty host. Assumes nothing.
-use Rattle.std.proofs.Common.{◌≡◌}
 use Rattle.model.proofs.Formed.{empty_law}
 use Rattle.passing.specs.Laws.{StartLaw}
 
