@@ -1,6 +1,7 @@
 // The program: it reads its arguments and files, and prints what the library makes of them.
 #![tactic(auto)]
 
+use check_text::check_report;
 use console::describe::universe_report;
 use console::failure::Failure;
 use console::hex::parse_hex;
@@ -19,7 +20,7 @@ use scripts::{
 };
 use std::alloc::{AllocError, Global};
 use std::process::ExitCode;
-use std::{env, fmt, fs, io};
+use std::{env, fmt, fs, io, mem};
 
 const USAGE: &str = "usage:
   sengoruwa demo                 the harbour example from beginning to end
@@ -27,6 +28,8 @@ const USAGE: &str = "usage:
   sengoruwa closing UNIVERSE     show its closing order: the pairs that can be reached, by rank
   sengoruwa plan UNIVERSE GOAL [--room N] [--out FILE]
                                  plan a goal, and show the script; --out also writes it packed
+  sengoruwa check UNIVERSE SCRIPT
+                                 check a packed script: replay it from empty, before any host is given an order
   sengoruwa lines SCRIPT         show the orders of a packed script
   sengoruwa pack ORDERS FILE     pack the orders of a text file into a script
   sengoruwa host UNIVERSE ORDERS [OPTIONS]
@@ -138,12 +141,24 @@ fn show_closing<'a>(rt: &HostRuntime, path: &'a str) -> Result<(), Stop<'a>> {
     Ok(rt.print(closing_report(rt.alloc(), &bytes)?)?)
 }
 
-fn show_lines<'a>(rt: &HostRuntime, path: &'a str) -> Result<(), Stop<'a>> {
+// The lines of a script file.
+fn read_script<'a>(rt: &HostRuntime, path: &'a str) -> Result<Vec<u32>, Stop<'a>> {
     let bytes = read_file(rt, path)?;
     let lines = script_lines(rt.alloc(), &bytes).map_err(|failure| failure.map(
         |_| Misuse::CutShort,
     ))?;
+    Ok(lines)
+}
+
+fn show_lines<'a>(rt: &HostRuntime, path: &'a str) -> Result<(), Stop<'a>> {
+    let lines = read_script(rt, path)?;
     Ok(rt.print(lines_report(rt.alloc(), &lines)?)?)
+}
+
+fn show_check<'a>(rt: &HostRuntime, universe: &'a str, script: &'a str) -> Result<(), Stop<'a>> {
+    let universe = read_file(rt, universe)?;
+    let lines = read_script(rt, script)?;
+    Ok(rt.print(check_report(rt.alloc(), &universe, &lines)?)?)
 }
 
 // The orders of a text file.
@@ -282,6 +297,21 @@ fn orders_with_one_early(alloc: Global, orders: &[Order]) -> Result<Vec<Order>, 
     Ok(given)
 }
 
+// Exchanges the last two lines.
+fn exchange_last(lines: &mut [u32]) {
+    if let [.., before, last] = lines {
+        mem::swap(before, last);
+    }
+}
+
+// Prints what is told, or the refusal.
+fn print_told(
+    rt: &HostRuntime,
+    told: Result<String, Failure<String>>,
+) -> Result<(), Stop<'static>> {
+    Ok(rt.print(told.or_else(Failure::into_refusal)?)?)
+}
+
 fn demo(rt: &HostRuntime) -> Result<(), Stop<'static>> {
     let alloc = rt.alloc();
     println!(rt; "The harbour universe, read from its file of 68 bytes:")?;
@@ -292,7 +322,15 @@ fn demo(rt: &HostRuntime) -> Result<(), Stop<'static>> {
     let lines = plan_lines(alloc, &universe_file(), &harbour::goal(), MOST_LINES)?;
     let script = lines_report(alloc, &lines)?;
     rt.print(script.as_str())?;
-    rt.print(pack_text(alloc, lines.len())?)?;
+    println!(rt; "Checked, before any host is given an order:")?;
+    print_told(rt, check_report(alloc, &universe_file(), &lines))?;
+    println!(rt;
+        "Checked with its last two lines exchanged, so that the lock is taken away one line before the dispatcher has left"
+    )?;
+    println!(rt; "the state that requires it:")?;
+    let mut exchanged = lines.clone()?;
+    exchange_last(&mut exchanged);
+    print_told(rt, check_report(alloc, &universe_file(), &exchanged))?;
     println!(rt;
         "Its orders on a slow host, a cloud that puts two orders off before each that it takes, under a layer that"
     )?;
@@ -314,6 +352,9 @@ fn run<'a>(rt: &HostRuntime, words: &'a [String]) -> Result<(), Stop<'a>> {
         [command, file] if command.as_str() == "universe" => show_universe(rt, file.as_str()),
         [command, file] if command.as_str() == "closing" => show_closing(rt, file.as_str()),
         [command, rest @ ..] if command.as_str() == "plan" => plan(rt, rest),
+        [command, universe, script] if command.as_str() == "check" => {
+            show_check(rt, universe.as_str(), script.as_str())
+        }
         [command, file] if command.as_str() == "lines" => show_lines(rt, file.as_str()),
         [command, orders, file] if command.as_str() == "pack" => {
             pack(rt, orders.as_str(), file.as_str())
