@@ -113,11 +113,11 @@ module _ (s : Situation) (o : Order) where
   abbrev held : Held
   held = record { situation = s; limits = largest }
 
-  judged_gap : offence o s ≡ None → leaves_gap o s ≡ true → order_judged s o ≡ Err Gap
+  pub judged_gap : offence o s ≡ None → leaves_gap o s ≡ true → order_judged s o ≡ Err Gap
   unfolding order_judged
   judged_gap n g = rw (n, g)
 
-  judged_done : offence o s ≡ None → leaves_gap o s ≡ false → (is_bind o && leb 2048 (bindings_of s)) ≡ false → order_judged s o ≡ Ok (result_of o s.config)
+  pub judged_done : offence o s ≡ None → leaves_gap o s ≡ false → (is_bind o && leb 2048 (bindings_of s)) ≡ false → order_judged s o ≡ Ok (result_of o s.config)
   unfolding order_judged
   judged_done n g f = rw (n, g, f)
 

@@ -6,6 +6,7 @@ use Rattle.universe.specs.Packed.{packed_form}
 use Rattle.plans.specs.Plan.{binding}
 use Rattle.harbour.specs.Harbour.{harbour, harbour_file}
 use Rattle.harbour.specs.Plans.{PlanCases}
+use Rattle.harbour.specs.Checks.{CheckCases}
 use Rattle.lines.specs.Line.{encoded, decoded}
 
 -- lines of orders, and numbers that are no lines
@@ -34,3 +35,4 @@ pub record HarbourCases : Type 0 where
   pub file : FileCases
   pub lines : LineCases
   pub plans : PlanCases
+  pub checks : CheckCases

@@ -1,3 +1,4 @@
 pub mod Harbour
 pub mod Plans
+pub mod Checks
 pub mod Cases
