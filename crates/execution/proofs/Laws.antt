@@ -1,11 +1,11 @@
 -- The law over runs. Assumes nothing.
-use Rattle.std.proofs.Common.{List, [], ◌∷◌, ◌≡◌, ◌-◌, All, length, slice_get, take, refl, ap, ◌∙◌, arith}
+use Rattle.std.proofs.Common.{List, [], ◌∷◌, ◌≡◌, All, length, slice_get, take, refl, ap, ◌∙◌, arith}
 use Rattle.std.proofs.Math.Seq.{take-length}
 use Rattle.std.proofs.lemmas.List.Elements.{All-cons, All-nil}
 use Rattle.model.specs.declared.order.Order.{Order}
 use Rattle.model.specs.Runs.{after}
 use Rattle.hosts.specs.Answers.{Meaning}
-use Rattle.execution.specs.Steps.{Progress, Step, Steps, begun, leases, reached}
+use Rattle.execution.specs.Steps.{Progress, Step, Steps, begun, reached}
 use Rattle.execution.specs.Laws.{AsExpected, EndsLaw, Sound, Start, StepsLaw}
 use Rattle.execution.proofs.Standing.{Kept, kept_first, kept_step}
 use Rattle.execution.proofs.Waiting.{ends_at}
