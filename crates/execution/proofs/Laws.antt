@@ -6,14 +6,14 @@ use Rattle.model.specs.declared.order.Order.{Order}
 use Rattle.model.specs.Runs.{after}
 use Rattle.hosts.specs.Answers.{Meaning}
 use Rattle.execution.specs.Steps.{Progress, Step, Steps, begun, reached}
-use Rattle.execution.specs.Laws.{AsExpected, EndsLaw, Sound, Start, StepsLaw}
+use Rattle.execution.specs.Laws.{AsExpected, EndsLaw, Intact, Start, StepsLaw}
 use Rattle.execution.proofs.Standing.{Kept, kept_first, kept_step}
 use Rattle.execution.proofs.Waiting.{ends_at}
 
 module _ (os : List Order) (m : Meaning) (start : Start os m) where
   -- what is kept is all that has to hold
-  sound : (a : Progress) → Kept os m a → Sound os m a
-  sound a k = record {
+  intact : (a : Progress) → Kept os m a → Intact os m a
+  intact a k = record {
     place = k.place;
     stands = k.at.stands;
     gap_free = k.at.gap_free;
@@ -22,22 +22,22 @@ module _ (os : List Order) (m : Meaning) (start : Start os m) where
   }
 
   -- so all of it holds after every step, from where it is kept
-  steps_hold : (a : Progress) (ts : List Step) → Kept os m a → Steps os a ts → All (λ t. Sound os m t.after × AsExpected t.answer) ts
+  steps_hold : (a : Progress) (ts : List Step) → Kept os m a → Steps os a ts → All (λ t. Intact os m t.after × AsExpected t.answer) ts
   unfolding Steps
-  steps_hold a [] k h = All-nil (λ (t : Step). Sound os m t.after × AsExpected t.answer)
+  steps_hold a [] k h = All-nil (λ (t : Step). Intact os m t.after × AsExpected t.answer)
   steps_hold a (t ∷ ts) k h =
       let s = kept_step os m start a t.after (slice_get os a.place) t.answer refl k h.0 in
-      All-cons (λ (t : Step). Sound os m t.after × AsExpected t.answer) t ts (sound t.after s.0, s.1) (steps_hold t.after ts s.0 h.1)
+      All-cons (λ (t : Step). Intact os m t.after × AsExpected t.answer) t ts (intact t.after s.0, s.1) (steps_hold t.after ts s.0 h.1)
 
   -- and where the steps lead
-  steps_reach : (a : Progress) (ts : List Step) → Kept os m a → Steps os a ts → Sound os m (reached a ts)
+  steps_reach : (a : Progress) (ts : List Step) → Kept os m a → Steps os a ts → Intact os m (reached a ts)
   unfolding Steps reached
-  steps_reach a [] k h = sound a k
+  steps_reach a [] k h = intact a k
   steps_reach a (t ∷ ts) k h =
       steps_reach t.after ts (kept_step os m start a t.after (slice_get os a.place) t.answer refl k h.0).0 h.1
 
   -- at the end all lines have led there
-  ends_stand : (a : Progress) → Sound os m a → a.place ≡ length os →
+  ends_stand : (a : Progress) → Intact os m a → a.place ≡ length os →
       a.host.situation ≡ record { universe = m.situation.universe; config = after m.situation.config os }
   ends_stand a s e =
       s.stands

@@ -29,7 +29,7 @@ AsExpected (Some r) = Expected (reason_of r)
 -- what holds wherever a run from m has come: what stands is what the lines before the place lead to, and nothing has a gap;
 -- bindings made less those ended are those that stand less those that stood; so where none stood, the leases are the
 -- bindings that stand
-pub record Sound (os : List Order) (m : Meaning) (a : Progress) : Type 0 where
+pub record Intact (os : List Order) (m : Meaning) (a : Progress) : Type 0 where
   pub place : a.place ≤ length os
   pub stands : a.host.situation ≡ record { universe = m.situation.universe; config = after m.situation.config (take a.place os) }
   pub gap_free : GapFree a.host.situation.universe a.host.situation.config
@@ -41,7 +41,7 @@ pub record Sound (os : List Order) (m : Meaning) (a : Progress) : Type 0 where
 abbrev pub StepsLaw : Type 0
 StepsLaw =
     (os : List Order) (m : Meaning) (ts : List Step) → Start os m → Steps os (begun m) ts →
-    All (λ t. Sound os m t.after × AsExpected t.answer) ts
+    All (λ t. Intact os m t.after × AsExpected t.answer) ts
 
 -- the allowances cover the script: they are at least its creates and its binds
 abbrev pub CoversAll : List Order → Load → Type 0
