@@ -1,13 +1,22 @@
 -- What it means that lines pass, in the words of runs.
-use Rattle.std.specs.Prelude.{◌≡◌, ℕ, ◌≤◌, ◌↔◌, All, List, ◌++◌, length, map, Ok, Result}
+use Rattle.std.specs.Prelude.{◌≡◌, ℕ, ◌<◌, ◌≤◌, ◌↔◌, All, List, ◌++◌, length, map, take, Some, Ok, Err, IsErr, Result, slice_index}
+use Rattle.model.specs.declared.binding.Binding.{Binding}
 use Rattle.model.specs.declared.order.Order.{Order}
+use Rattle.model.specs.declared.order.Order.TheVariants.{Bind}
 use Rattle.model.specs.Universe.{Universe}
-use Rattle.model.specs.Config.{empty}
+use Rattle.model.specs.Config.{Config, empty}
 use Rattle.model.specs.Counts.{bindings}
+use Rattle.model.specs.Gaps.{Gap as InGap}
+use Rattle.model.specs.Orders.{Legal, result_of}
 use Rattle.model.specs.Runs.{Run, after}
 use Rattle.lines.specs.Line.{decoded}
 use Rattle.hosts.specs.Laws.{InRange}
+use Rattle.hosts.specs.Offences.{offence}
 use Rattle.checking.specs.declared.refusal.CheckRefusal.{CheckRefusal}
+use Rattle.checking.specs.declared.refusal.CheckRefusal.TheVariants.{AtLine}
+use Rattle.checking.specs.declared.refusal.LineFault.{LineFault}
+use Rattle.checking.specs.declared.refusal.LineFault.TheVariants.{NotALine, Illegal, Gap, TooManyBindings}
+use Rattle.checking.specs.Judging.{situation}
 
 -- the lines pass as these orders
 pub record PassesAs (u : Universe) (xs : List ℕ) (os : List Order) : Type 0 where
@@ -28,3 +37,24 @@ Passes u xs = (os : List Order) × PassesAs u xs os
 -- the lines are not refused exactly if they pass
 abbrev pub RefusedUnless : Universe → List ℕ → Result (Unit {0}) CheckRefusal → Type 0
 RefusedUnless u xs r = (r ≡ Ok tt) ↔ Passes u xs
+
+-- where c stands, the line is bad for this reason: it tells no order; its order is not legal; its order is legal, and some
+-- instance has a gap in its result; or it is a legal bind, and 2,048 bindings stand
+abbrev pub IsBad : Universe → Config → ℕ → LineFault → Type 0
+IsBad u c x NotALine = IsErr (decoded x)
+IsBad u c x (Illegal e) = (o : Order) × (decoded x ≡ Ok o) × (offence o (situation u c) ≡ Some e) × (Legal u c o → ⊥)
+IsBad u c x Gap = (o : Order) × (decoded x ≡ Ok o) × Legal u c o × (z : ℕ) × (p : ℕ) × InGap u (result_of o c) z p
+IsBad u c x TooManyBindings = (b : Binding) × (decoded x ≡ Ok (Bind b)) × Legal u c (Bind b) × (2048 ≤ bindings 32 256 c)
+
+-- the line at the place is bad, and none before it: those tell a run on which never more than 2,048 bindings stand
+pub record FirstBad (u : Universe) (xs : List ℕ) (place : ℕ) (fault : LineFault) : Type 0 where
+  pub inside : place < length xs
+  pub orders : List Order
+  pub told : map decoded (take place xs) ≡ map Ok orders
+  pub run : Run u orders
+  pub bindings : (before rest : List Order) → orders ≡ before ++ rest → bindings 32 256 (after empty before) ≤ 2048
+  pub bad : IsBad u (after empty orders) (slice_index xs place) fault
+
+-- a line that is told as bad is the first
+abbrev pub RefusedAtFirst : {X : Type 0} → Universe → List ℕ → Result X CheckRefusal → Type 0
+RefusedAtFirst u xs r = (place : ℕ) (fault : LineFault) → r ≡ Err (AtLine place fault) → FirstBad u xs place fault

@@ -1,5 +1,6 @@
 // The check of a draft against a host.
 ghost use Rattle.std.specs.Prelude.{◌≡◌};
+ghost use Rattle.checking.specs.Passing.{RefusedAtFirst};
 ghost use Rattle.checking.specs.Checking.{CheckedUnless, checked, empty_judged, is_empty};
 
 use crate::judge::{judge_length, replay};
@@ -39,6 +40,7 @@ fn judge_draft<'a, S: Survey>(draft: Draft<'a>, host: &S) -> Result<CheckedPlan<
 pub fn check<'a, S: Survey>(draft: Draft<'a>, host: &S) -> Result<CheckedPlan<'a>, CheckRefusal>
     ensures answer { result ≡ checked (S.situation host.now) draft.entry }
     ensures law { CheckedUnless (S.situation host.now) draft.entry result }
+    ensures first { RefusedAtFirst (S.situation host.now).universe draft.entry.lines.now result }
 {
     judge_draft(draft, host)
 }

@@ -7,7 +7,7 @@ ghost use Rattle.hosts.specs.Offences.{offence};
 ghost use Rattle.hosts.specs.Answers.{leaves_gap};
 ghost use Rattle.table.specs.Table.{held_of, situation_of};
 ghost use Rattle.checking.specs.Judging.{judged, length_judged, line_judged, order_judged, replayed};
-ghost use Rattle.checking.specs.Passing.{RefusedUnless};
+ghost use Rattle.checking.specs.Passing.{RefusedAtFirst, RefusedUnless};
 ghost use Rattle.checking.specs.Replaying.{Kept, answer_at, answer_of, fault_of_reason, fresh, largest};
 
 use crate::refusal::{CheckRefusal, LineFault};
@@ -126,6 +126,7 @@ pub(crate) fn replay(universe: Universe, lines: &[u32]) -> Result<(), CheckRefus
 pub fn judge(universe: &Universe, lines: &[u32]) -> Result<(), CheckRefusal>
     ensures answer { result ≡ judged (universe_in universe.now) lines.now }
     ensures law { RefusedUnless (universe_in universe.now) lines.now result }
+    ensures first { RefusedAtFirst (universe_in universe.now) lines.now result }
 {
     judge_length(lines)?;
     replay(*universe, lines)
