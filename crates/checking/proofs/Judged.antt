@@ -40,7 +40,7 @@ line_passes place (Err e) rest h = never cc
 
 module _ (u : Universe) where
   -- no lines pass as no orders
-  none_pass : (c : Config) → Stands u c → PassesFrom u c [] []
+  pub none_pass : (c : Config) → Stands u c → PassesFrom u c [] []
   unfolding RunsFrom after
   none_pass c h = record { told = refl; run = tt; range = All-nil InRange; bindings = places }
     where
@@ -49,7 +49,7 @@ module _ (u : Universe) where
       places (o ∷ os) rest e = never cc
 
   -- a good line and lines that pass after it
-  one_more : (c : Config) → Stands u c → (x : ℕ) (o : Order) (xs : List ℕ) (os : List Order) →
+  pub one_more : (c : Config) → Stands u c → (x : ℕ) (o : Order) (xs : List ℕ) (os : List Order) →
       decoded x ≡ Ok o → Good u c o → PassesFrom u (result_of o c) xs os → PassesFrom u c (x ∷ xs) (o ∷ os)
   unfolding RunsFrom after
   one_more c h x o xs os e g p =

@@ -97,7 +97,7 @@ pub record Good (u : Universe) (c : Config) (o : Order) : Type 0 where
 
 -- an order without offence leaves a gap exactly if one is found
 module _ (s : Situation) (law : Lawful s) (o : Order) (n : offence o s ≡ None) where
-  after_below : Below 256 (result_of o s.config)
+  pub after_below : Below 256 (result_of o s.config)
   after_below = lawful_below (record { universe = s.universe; config = result_of o s.config }) (lawful_after s law o n)
 
   none_left : leaves_gap o s ≡ false → GapFree s.universe (result_of o s.config)

@@ -1,5 +1,5 @@
 -- What it means that lines pass, in the words of runs.
-use Rattle.std.specs.Prelude.{◌≡◌, ℕ, ◌<◌, ◌≤◌, ◌↔◌, All, List, ◌++◌, length, map, take, Some, Ok, Err, IsErr, Result, slice_index}
+use Rattle.std.specs.Prelude.{◌≡◌, ℕ, ◌<◌, ◌≤◌, ◌↔◌, All, List, ◌++◌, length, map, take, Some, Ok, IfErr, IsErr, Result, slice_index}
 use Rattle.model.specs.declared.binding.Binding.{Binding}
 use Rattle.model.specs.declared.order.Order.{Order}
 use Rattle.model.specs.declared.order.Order.TheVariants.{Bind}
@@ -13,7 +13,7 @@ use Rattle.lines.specs.Line.{decoded}
 use Rattle.hosts.specs.Laws.{InRange}
 use Rattle.hosts.specs.Offences.{offence}
 use Rattle.checking.specs.declared.refusal.CheckRefusal.{CheckRefusal}
-use Rattle.checking.specs.declared.refusal.CheckRefusal.TheVariants.{AtLine}
+use Rattle.checking.specs.declared.refusal.CheckRefusal.TheVariants.{Length, NotEmpty, AtLine}
 use Rattle.checking.specs.declared.refusal.LineFault.{LineFault}
 use Rattle.checking.specs.declared.refusal.LineFault.TheVariants.{NotALine, Illegal, Gap, TooManyBindings}
 use Rattle.checking.specs.Judging.{situation}
@@ -38,13 +38,14 @@ Passes u xs = (os : List Order) × PassesAs u xs os
 abbrev pub RefusedUnless : Universe → List ℕ → Result (Unit {0}) CheckRefusal → Type 0
 RefusedUnless u xs r = (r ≡ Ok tt) ↔ Passes u xs
 
--- where c stands, the line is bad for this reason: it tells no order; its order is not legal; its order is legal, and some
--- instance has a gap in its result; or it is a legal bind, and 2,048 bindings stand
+-- where c stands, the line is bad for this reason: it tells no order; its order is not legal; its order is legal, and
+-- some instance has a gap in its result; or it is a legal bind, and 2,048 bindings stand
 abbrev pub IsBad : Universe → Config → ℕ → LineFault → Type 0
 IsBad u c x NotALine = IsErr (decoded x)
 IsBad u c x (Illegal e) = (o : Order) × (decoded x ≡ Ok o) × (offence o (situation u c) ≡ Some e) × (Legal u c o → ⊥)
 IsBad u c x Gap = (o : Order) × (decoded x ≡ Ok o) × Legal u c o × (z : ℕ) × (p : ℕ) × InGap u (result_of o c) z p
-IsBad u c x TooManyBindings = (b : Binding) × (decoded x ≡ Ok (Bind b)) × Legal u c (Bind b) × (2048 ≤ bindings 32 256 c)
+IsBad u c x TooManyBindings =
+    (b : Binding) × (decoded x ≡ Ok (Bind b)) × Legal u c (Bind b) × (2048 ≤ bindings 32 256 c)
 
 -- the line at the place is bad, and none before it: those tell a run on which never more than 2,048 bindings stand
 pub record FirstBad (u : Universe) (xs : List ℕ) (place : ℕ) (fault : LineFault) : Type 0 where
@@ -55,6 +56,12 @@ pub record FirstBad (u : Universe) (xs : List ℕ) (place : ℕ) (fault : LineFa
   pub bindings : (before rest : List Order) → orders ≡ before ++ rest → bindings 32 256 (after empty before) ≤ 2048
   pub bad : IsBad u (after empty orders) (slice_index xs place) fault
 
+-- a refusal at a line tells the first bad line; the others tell of no line
+abbrev pub TellsFirst : Universe → List ℕ → CheckRefusal → Type 0
+TellsFirst u xs Length = Unit {0}
+TellsFirst u xs NotEmpty = Unit {0}
+TellsFirst u xs (AtLine place fault) = FirstBad u xs place fault
+
 -- a line that is told as bad is the first
 abbrev pub RefusedAtFirst : {X : Type 0} → Universe → List ℕ → Result X CheckRefusal → Type 0
-RefusedAtFirst u xs r = (place : ℕ) (fault : LineFault) → r ≡ Err (AtLine place fault) → FirstBad u xs place fault
+RefusedAtFirst u xs r = IfErr r (TellsFirst u xs)
