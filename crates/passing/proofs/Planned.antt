@@ -1,17 +1,14 @@
 -- The planner's scripts pass, so the check passes them on every empty host. Assumes nothing.
-use Rattle.std.proofs.Common.{◌≡◌, ℕ, ◌≤◌, Bool, true, false, cond, List, [], ◌∷◌, length, map, take, Ok, Err, Result, sym, refl, ap, ◌∙◌, arith}
+use Rattle.std.proofs.Common.{◌≡◌, ℕ, ◌≤◌, List, [], ◌∷◌, length, map, take, Ok, Err, Result, sym, refl, ap, ◌∙◌, arith}
 use Rattle.std.specs.List.{All}
 use Rattle.std.specs.Result.{IsOk}
 use Rattle.std.proofs.lemmas.List.{length-map}
 use Rattle.std.proofs.lemmas.List.Elements.{All-weaker}
 use Rattle.model.specs.declared.pair.Pair.{Pair}
 use Rattle.model.specs.declared.order.Order.{Order}
-use Rattle.model.specs.declared.order.Order.TheVariants.{Create, Bind, Change, Unbind, Delete}
 use Rattle.model.specs.Config.{empty, pair}
 use Rattle.model.specs.Runs.{after}
-use Rattle.lines.specs.declared.refusal.LineRefusal.TheVariants.{NotALine}
-use Rattle.lines.specs.Line.{decoded, encoded, fields_of_order, fits, line_of_fields}
-use Rattle.lines.proofs.Packing.{Small, small}
+use Rattle.lines.specs.Line.{decoded, encoded}
 use Rattle.hosts.specs.Laws.{InRange}
 use Rattle.plans.specs.Goals.{Met}
 use Rattle.plans.proofs.Laws.{lines_law, reach_law, size_law}
@@ -22,23 +19,8 @@ use Rattle.planner.proofs.Promising.{not_same, planned_is, planned_short, writte
 use Rattle.checking.specs.Checking.{checked}
 use Rattle.checking.specs.Passing.{PassesAs}
 use Rattle.checking.proofs.Checked.{passes_checked}
+use Rattle.checking.proofs.FirstBad.{encoded_range}
 use Rattle.passing.specs.Laws.{PlannedCheckedLaw, PlannedPassesLaw}
-
--- an order that has a line fits its fields
-encoded_small : (o : Order) → IsOk (encoded o) → Small (fields_of_order o)
-encoded_small o ok = small (fields_of_order o) (by (fits (fields_of_order o)) ok)
-  where
-    by : (b : Bool) → IsOk (cond b (Ok (line_of_fields (fields_of_order o))) (Err NotALine)) → b ≡ true
-    by true ok = refl
-    by false ok = ok
-
--- so the numbers of its instances are in range
-encoded_range : (o : Order) → IsOk (encoded o) → InRange o
-encoded_range (Create z t) ok = (encoded_small (Create z t) ok).first
-encoded_range (Bind b) ok = let s = encoded_small (Bind b) ok in (s.first, s.second)
-encoded_range (Change z q) ok = (encoded_small (Change z q) ok).first
-encoded_range (Unbind b) ok = let s = encoded_small (Unbind b) ok in (s.first, s.second)
-encoded_range (Delete z) ok = (encoded_small (Delete z) ok).first
 
 -- orders that meet a goal are some
 orders_some : (goal : List Pair) (os : List Order) → 1 ≤ length goal → Met goal (after empty os) → 1 ≤ length os
