@@ -618,6 +618,8 @@ HOSTS = [
     ("the accident on a cloud, and the change after it", "256 2048 0 -", BUILT + done("u 0 0 2/s 2 2")),
     ("the accident on a verifying cloud", "256 2048 0 v", BUILT + [("u 0 0 2", "30 by 1")] + done("s 2 2/u 0 0 2")),
     ("the accident on a pile of two", "256 2048 0 vv", BUILT + [("u 0 0 2", "30 by 2")] + done("s 2 2/u 0 0 2")),
+    ("the accident on a cloud with waits of 2", "256 2048 2 -", slowly(2, BUILT + done("u 0 0 2"))),
+    ("the accident on a verifying cloud with waits of 2", "256 2048 2 v", slowly(2, BUILT + [("u 0 0 2", "30 by 1")])),
     ("the wrong binding given up on a verifying cloud", "256 2048 0 v", BUILT + done("s 2 2") + [("u 1 1 2", "30 by 1"), ("u 0 0 1", "30 by 1")]),
 ] + LIMITS
 # One type: state 1 follows 0, and provides and requires port 0. Only here can 25 come for the ends alone.
