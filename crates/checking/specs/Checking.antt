@@ -1,7 +1,7 @@
 -- What check answers.
 use Rattle.std.specs.Prelude.{◌≡◌, ◌↔◌, Bool, true, not, ◌&&◌, ◌==◌, Ok, Err, IsOk, Result}
 use Rattle.model.specs.Config.{empty}
-use Rattle.hosts.specs.Survey.{Situation, Lawful, bindings_of, instances_of}
+use Rattle.hosts.specs.Survey.{Situation, bindings_of, instances_of}
 use Rattle.checking.specs.declared.stages.Draft.{Draft}
 use Rattle.checking.specs.declared.stages.CheckedPlan.{CheckedPlan}
 use Rattle.checking.specs.declared.refusal.CheckRefusal.{CheckRefusal}
@@ -13,9 +13,9 @@ use Rattle.checking.specs.Judging.{and_then, length_judged, refused_if, replayed
 abbrev pub is_empty : Situation → Bool
 is_empty s = instances_of s == 0 && bindings_of s == 0
 
--- nothing stands, in a survey, exactly if its configuration is the empty one
-abbrev pub EmptyLaw : Type 0
-EmptyLaw = (s : Situation) → Lawful s → (is_empty s ≡ true) ↔ (s.config ≡ empty)
+-- so it is told exactly if the configuration is the empty one
+abbrev pub TellsEmpty : Situation → Bool → Type 0
+TellsEmpty s r = (r ≡ true) ↔ (s.config ≡ empty)
 
 -- the plan with the lines of a draft
 abbrev pub plan_of : Draft → Result (Unit {0}) CheckRefusal → Result CheckedPlan CheckRefusal

@@ -18,18 +18,20 @@ use Rattle.checking.specs.declared.refusal.LineFault.{LineFault}
 use Rattle.checking.specs.declared.refusal.LineFault.TheVariants.{NotALine, Illegal, Gap, TooManyBindings}
 use Rattle.checking.specs.Judging.{situation}
 
--- the lines pass as these orders
+-- the lines lead up to the last of them: they tell these orders, which are a run (each is legal where it stands, and
+-- nothing has a gap after any of them), the numbers of their instances are at most 255, and at every place at most 2,048
+-- bindings stand
+pub record Leads (u : Universe) (xs : List ℕ) (os : List Order) : Type 0 where
+  pub told : map decoded xs ≡ map Ok os
+  pub run : Run u os
+  pub range : All InRange os
+  pub bindings : (before rest : List Order) → os ≡ before ++ rest → bindings 32 256 (after empty before) ≤ 2048
+
+-- the lines pass as these orders: there are 1 to 32,768 lines, and all of them lead there
 pub record PassesAs (u : Universe) (xs : List ℕ) (os : List Order) : Type 0 where
-  -- there are 1 to 32,768 lines, and they tell the orders
   pub some : 1 ≤ length xs
   pub few : length xs ≤ 32768
-  pub told : map decoded xs ≡ map Ok os
-  -- the orders are a run: each is legal where it stands, and nothing has a gap after any of them
-  pub run : Run u os
-  -- the numbers of their instances are at most 255
-  pub range : All InRange os
-  -- at every place at most 2,048 bindings stand
-  pub bindings : (before rest : List Order) → os ≡ before ++ rest → bindings 32 256 (after empty before) ≤ 2048
+  pub leads : Leads u xs os
 
 abbrev pub Passes : Universe → List ℕ → Type 0
 Passes u xs = (os : List Order) × PassesAs u xs os
@@ -47,21 +49,21 @@ IsBad u c x Gap = (o : Order) × (decoded x ≡ Ok o) × Legal u c o × (z : ℕ
 IsBad u c x TooManyBindings =
     (b : Binding) × (decoded x ≡ Ok (Bind b)) × Legal u c (Bind b) × (2048 ≤ bindings 32 256 c)
 
--- the line at the place is bad, and none before it: those tell a run on which never more than 2,048 bindings stand
+-- the line at the place is bad, and none before it: those lead up to it
 pub record FirstBad (u : Universe) (xs : List ℕ) (place : ℕ) (fault : LineFault) : Type 0 where
+  pub few : length xs ≤ 32768
   pub inside : place < length xs
   pub orders : List Order
-  pub told : map decoded (take place xs) ≡ map Ok orders
-  pub run : Run u orders
-  pub bindings : (before rest : List Order) → orders ≡ before ++ rest → bindings 32 256 (after empty before) ≤ 2048
+  pub leads : Leads u (take place xs) orders
   pub bad : IsBad u (after empty orders) (slice_index xs place) fault
 
--- a refusal at a line tells the first bad line; the others tell of no line
-abbrev pub TellsFirst : Universe → List ℕ → CheckRefusal → Type 0
-TellsFirst u xs Length = Unit {0}
-TellsFirst u xs NotEmpty = Unit {0}
-TellsFirst u xs (AtLine place fault) = FirstBad u xs place fault
+-- the refusal is right: the number of lines is not one that can pass; something stands in the host; or a line is told as
+-- bad that is the first
+abbrev pub IsRight : Type 0 → Universe → List ℕ → CheckRefusal → Type 0
+IsRight occupied u xs Length = (1 ≤ length xs) → (length xs ≤ 32768) → ⊥
+IsRight occupied u xs NotEmpty = occupied
+IsRight occupied u xs (AtLine place fault) = FirstBad u xs place fault
 
--- a line that is told as bad is the first
-abbrev pub RefusedAtFirst : {X : Type 0} → Universe → List ℕ → Result X CheckRefusal → Type 0
-RefusedAtFirst u xs r = IfErr r (TellsFirst u xs)
+-- what is refused is refused rightly
+abbrev pub RefusedRightly : {X : Type 0} → Type 0 → Universe → List ℕ → Result X CheckRefusal → Type 0
+RefusedRightly occupied u xs r = IfErr r (IsRight occupied u xs)

@@ -24,7 +24,7 @@ fresh u = record { situation = situation u empty; limits = largest }
 abbrev pub Kept : Held → Held → Type 0
 Kept h k = (k.situation.universe ≡ h.situation.universe) × (k.limits ≡ h.limits)
 
--- the fault of an order that the largest table refuses; it gives no other reason than an offence, and full for a bind
+-- the fault of an order that the largest table refuses, which it does only for an offence, or a bind as full
 abbrev pub fault_of_reason : Reason → LineFault
 fault_of_reason (Illegally e) = Illegal e
 fault_of_reason Full = TooManyBindings

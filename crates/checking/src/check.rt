@@ -1,7 +1,8 @@
 // The check of a draft against a host.
 ghost use Rattle.std.specs.Prelude.{◌≡◌};
-ghost use Rattle.checking.specs.Passing.{RefusedAtFirst};
-ghost use Rattle.checking.specs.Checking.{CheckedUnless, checked, empty_judged, is_empty};
+ghost use Rattle.model.specs.Config.{empty};
+ghost use Rattle.checking.specs.Passing.{RefusedRightly};
+ghost use Rattle.checking.specs.Checking.{CheckedUnless, TellsEmpty, checked, empty_judged, is_empty};
 
 use crate::judge::{judge_length, replay};
 use crate::refusal::CheckRefusal;
@@ -10,7 +11,8 @@ use hosts::survey::Survey;
 
 // Whether nothing stands.
 pub fn is_empty<S: Survey>(survey: &S) -> bool
-    ensures { result ≡ is_empty (S.situation survey.now) }
+    ensures value { result ≡ is_empty (S.situation survey.now) }
+    ensures law { TellsEmpty (S.situation survey.now) result }
 {
     survey.instances() == 0 && survey.bindings() == 0
 }
@@ -26,6 +28,7 @@ fn judge_empty<S: Survey>(survey: &S) -> Result<(), CheckRefusal>
 }
 
 // Judges the draft: its number of lines, then that nothing stands in the host, then its lines in the host's universe.
+// This is the work of `check`, apart from what it means, so that it is proved with no proof file.
 fn judge_draft<'a, S: Survey>(draft: Draft<'a>, host: &S) -> Result<CheckedPlan<'a>, CheckRefusal>
     ensures { result ≡ checked (S.situation host.now) draft.entry }
 {
@@ -40,7 +43,7 @@ fn judge_draft<'a, S: Survey>(draft: Draft<'a>, host: &S) -> Result<CheckedPlan<
 pub fn check<'a, S: Survey>(draft: Draft<'a>, host: &S) -> Result<CheckedPlan<'a>, CheckRefusal>
     ensures answer { result ≡ checked (S.situation host.now) draft.entry }
     ensures law { CheckedUnless (S.situation host.now) draft.entry result }
-    ensures first { RefusedAtFirst (S.situation host.now).universe draft.entry.lines.now result }
+    ensures refused { RefusedRightly ((S.situation host.now).config ≡ empty → ⊥) (S.situation host.now).universe draft.entry.lines.now result }
 {
     judge_draft(draft, host)
 }

@@ -7,7 +7,7 @@ ghost use Rattle.hosts.specs.Offences.{offence};
 ghost use Rattle.hosts.specs.Answers.{leaves_gap};
 ghost use Rattle.table.specs.Table.{held_of, situation_of};
 ghost use Rattle.checking.specs.Judging.{judged, length_judged, line_judged, order_judged, replayed};
-ghost use Rattle.checking.specs.Passing.{RefusedAtFirst, RefusedUnless};
+ghost use Rattle.checking.specs.Passing.{RefusedRightly, RefusedUnless};
 ghost use Rattle.checking.specs.Replaying.{Kept, answer_at, answer_of, fault_of_reason, fresh, largest};
 
 use crate::refusal::{CheckRefusal, LineFault};
@@ -19,7 +19,7 @@ use table::limits::Limits;
 use table::table::Table;
 use universe::held::Universe;
 
-// As much as a table can hold. A line's numbers pass no other limit.
+// As much as a table can hold. 256 instances always fit, since a line's instance numbers are at most 255.
 const LARGEST: Limits = Limits {
     instances: 256,
     bindings: 2048,
@@ -48,7 +48,7 @@ fn does_leave_gap(table: &Table, order: Order) -> bool
     }
 }
 
-// The fault of an order that the largest table refuses. It gives no other reason than an offence, and full for a bind.
+// The fault of an order that the largest table refuses, which it does only for an offence, or a bind as full.
 fn fault_of(reason: Reason) -> LineFault
     ensures { result ≡ fault_of_reason reason }
 {
@@ -126,7 +126,7 @@ pub(crate) fn replay(universe: Universe, lines: &[u32]) -> Result<(), CheckRefus
 pub fn judge(universe: &Universe, lines: &[u32]) -> Result<(), CheckRefusal>
     ensures answer { result ≡ judged (universe_in universe.now) lines.now }
     ensures law { RefusedUnless (universe_in universe.now) lines.now result }
-    ensures first { RefusedAtFirst (universe_in universe.now) lines.now result }
+    ensures refused { RefusedRightly ⊥ (universe_in universe.now) lines.now result }
 {
     judge_length(lines)?;
     replay(*universe, lines)

@@ -1,4 +1,4 @@
-// Scripts on their way to a host: a draft that nobody has checked, and a plan that passed the check.
+// The stages of a script: a draft that nobody has checked, and a plan that passed the check.
 ghost use Rattle.std.specs.Prelude.{◌≡◌};
 
 // A script that nobody has checked. Its lines are lent, so they stay as they are.

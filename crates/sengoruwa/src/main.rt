@@ -304,7 +304,7 @@ fn exchange_last(lines: &mut [u32]) {
     }
 }
 
-// Prints what is told, or the refusal.
+// Prints the text, also that of a refusal.
 fn print_told(
     rt: &HostRuntime,
     told: Result<String, Failure<String>>,
