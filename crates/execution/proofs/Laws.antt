@@ -17,24 +17,28 @@ module _ (os : List Order) (m : Meaning) (start : Start os m) where
     place = k.place;
     stands = k.at.stands;
     gap_free = k.at.gap_free;
+    lawful = k.at.lawful;
+    formed = k.at.formed;
+    sane = k.sane;
+    profile = k.profile;
     counted = k.leases;
     leases = λ none. omega (arith, k.leases);
   }
 
   -- so all of it holds after every step, from where it is kept
-  steps_hold : (a : Progress) (ts : List Step) → Kept os m a → Steps os a ts → All (λ t. Intact os m t.after × AsExpected t.answer) ts
+  steps_hold : (a : Progress) (ts : List Step) → Kept os m a → Steps os a ts → All (λ t. Intact os m t.progress × AsExpected t.answer) ts
   unfolding Steps
-  steps_hold a [] k h = All-nil (λ (t : Step). Intact os m t.after × AsExpected t.answer)
+  steps_hold a [] k h = All-nil (λ (t : Step). Intact os m t.progress × AsExpected t.answer)
   steps_hold a (t ∷ ts) k h =
-      let s = kept_step os m start a t.after (slice_get os a.place) t.answer refl k h.0 in
-      All-cons (λ (t : Step). Intact os m t.after × AsExpected t.answer) t ts (intact t.after s.0, s.1) (steps_hold t.after ts s.0 h.1)
+      let s = kept_step os m start a t.progress (slice_get os a.place) t.answer refl k h.0 in
+      All-cons (λ (t : Step). Intact os m t.progress × AsExpected t.answer) t ts (intact t.progress s.0, s.1) (steps_hold t.progress ts s.0 h.1)
 
   -- and where the steps lead
   steps_reach : (a : Progress) (ts : List Step) → Kept os m a → Steps os a ts → Intact os m (reached a ts)
   unfolding Steps reached
   steps_reach a [] k h = intact a k
   steps_reach a (t ∷ ts) k h =
-      steps_reach t.after ts (kept_step os m start a t.after (slice_get os a.place) t.answer refl k h.0).0 h.1
+      steps_reach t.progress ts (kept_step os m start a t.progress (slice_get os a.place) t.answer refl k h.0).0 h.1
 
   -- at the end all lines have led there
   ends_stand : (a : Progress) → Intact os m a → a.place ≡ length os →

@@ -121,9 +121,9 @@ module _ (os : List Order) (m : Meaning) (start : Start os m) where
         | inr within ↦ within_ends w a.place (length os) j a.host.service.load.waits k.place (omega arith) within
       ]
   ends_from a (s ∷ ts) j k t h many =
-      let n = kept_step os m start a s.after (slice_get os a.place) s.answer refl k h.0 in
-      let u = timely_step a s.after j (slice_get os a.place) s.answer refl k n.0 n.1 t h.0 in
-      ends_from s.after ts (j + 1) n.0 u h.1 (omega arith)
+      let n = kept_step os m start a s.progress (slice_get os a.place) s.answer refl k h.0 in
+      let u = timely_step a s.progress j (slice_get os a.place) s.answer refl k n.0 n.1 t h.0 in
+      ends_from s.progress ts (j + 1) n.0 u h.1 (omega arith)
 
   -- it holds at the start
   timely_first : CoversAll os m.service.load → Timely os w 0 (begun m)

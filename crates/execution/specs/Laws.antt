@@ -26,13 +26,17 @@ abbrev pub AsExpected : Option Answer → Type 0
 AsExpected None = Unit {0}
 AsExpected (Some r) = Expected (reason_of r)
 
--- what holds wherever a run from m has come: what stands is what the lines before the place lead to, and nothing has a gap;
--- bindings made less those ended are those that stand less those that stood; so where none stood, the leases are the
--- bindings that stand
+-- what holds wherever a run from m has come: what stands is what the lines before the place lead to, it is well formed and
+-- has no gap, and the host keeps its laws and its profile; bindings made less those ended are those that stand less those
+-- that stood, so where none stood, the leases are the bindings that stand
 pub record Intact (os : List Order) (m : Meaning) (a : Progress) : Type 0 where
   pub place : a.place ≤ length os
   pub stands : a.host.situation ≡ record { universe = m.situation.universe; config = after m.situation.config (take a.place os) }
   pub gap_free : GapFree a.host.situation.universe a.host.situation.config
+  pub lawful : Lawful a.host.situation
+  pub formed : WellFormed a.host.situation.universe a.host.situation.config
+  pub sane : Sane a.host.service
+  pub profile : a.host.service.profile ≡ m.service.profile
   pub counted : a.made + bindings_of m.situation ≡ bindings_of a.host.situation + a.ended
   pub leases : bindings_of m.situation ≡ 0 → leases a ≡ bindings_of a.host.situation
 
@@ -41,9 +45,10 @@ pub record Intact (os : List Order) (m : Meaning) (a : Progress) : Type 0 where
 abbrev pub StepsLaw : Type 0
 StepsLaw =
     (os : List Order) (m : Meaning) (ts : List Step) → Start os m → Steps os (begun m) ts →
-    All (λ t. Intact os m t.after × AsExpected t.answer) ts
+    All (λ t. Intact os m t.progress × AsExpected t.answer) ts
 
--- the allowances cover the script: they are at least its creates and its binds
+-- the allowances cover the script: they are at least its creates and its binds, those too that later orders undo, since a
+-- host need not give an allowance back
 abbrev pub CoversAll : List Order → Load → Type 0
 CoversAll os l = (count_by is_create os ≤ l.creations) × (count_by is_bind os ≤ l.bindings)
 

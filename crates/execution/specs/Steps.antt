@@ -43,14 +43,14 @@ Stepped None a None b = b ≡ a
 -- a step: the host's answer, if there was a line to order, and how far the run has come after it
 pub record Step : Type 0 where
   pub answer : Option Answer
-  pub after : Progress
+  pub progress : Progress
 
 -- the steps of a run of the script, from a on: each begins where the one before ended
 unfoldable pub Steps : List Order → Progress → List Step → Type 0
 Steps os a [] = Unit {0}
-Steps os a (t ∷ ts) = Stepped (slice_get os a.place) a t.answer t.after × Steps os t.after ts
+Steps os a (t ∷ ts) = Stepped (slice_get os a.place) a t.answer t.progress × Steps os t.progress ts
 
 -- how far the run has come after the steps
 unfoldable pub reached : Progress → List Step → Progress
 reached a [] = a
-reached a (t ∷ ts) = reached t.after ts
+reached a (t ∷ ts) = reached t.progress ts

@@ -1,9 +1,12 @@
 -- Fresh piles are starts, and what they do gives runs. Assumes nothing.
-use Rattle.std.proofs.Common.{◌≡◌, ℕ, zero, suc, ◌≤◌, List, length, Some, None, Ok, Err, Option, slice_get, refl, ap, inl, inr, arith}
+use Rattle.std.proofs.Common.{◌≡◌, ℕ, zero, suc, ◌+◌, ◌-◌, ◌*◌, ◌≤◌, min, List, length, Some, None, Ok, Err, Option, slice_get, refl, ap, ◌∙◌, inl, inr, arith}
 use mathlib.Core.Bool.{false≢true}
 use Rattle.std.proofs.lemmas.Bool.{cases_Bool}
 use Rattle.model.specs.declared.order.Order.{Order}
+use Rattle.model.specs.Config.{empty}
 use Rattle.model.specs.Universe.{Universe, Valid}
+use Rattle.model.proofs.Counting.{bindings_none, instances_none}
+use Rattle.hosts.specs.declared.load.Load.{Load}
 use Rattle.hosts.specs.Survey.{Lawful, Situation}
 use Rattle.hosts.specs.Service.{Sane, Service}
 use Rattle.hosts.specs.Answers.{Answer, Answered, Gives, Meaning}
@@ -11,15 +14,17 @@ use Rattle.hosts.proofs.Deciding.{done_law, kept_law, refused_law}
 use Rattle.hosts.proofs.Offending.{lawful_after}
 use Rattle.cloud.specs.Cloud.{CloudState, meaning_of}
 use Rattle.cloud.proofs.Serving.{answers}
+use Rattle.table.specs.Table.{load_of}
 use Rattle.layers.specs.Verifying.{Relays, stopped, watched_sane}
 use Rattle.layers.proofs.Relaying.{relayed_answers}
 use Rattle.execution.specs.Steps.{Stepped, Steps}
+use Rattle.execution.proofs.Laws.{ends_law}
 use Rattle.options.specs.declared.HostOptions.{HostOptions}
 use Rattle.options.specs.declared.Layers.{Layers}
 use Rattle.options.specs.declared.Layers.TheVariants.{None as NoLayer, Verifying, VerifyingTwice}
 use Rattle.piles.specs.Piles.{Pile, cloud_alone, fresh, fresh_cloud_of, pile_of, verifying}
 use Rattle.passing.specs.Piles.{PileProgress, next_progress, pile_begun, pile_step, pile_steps, progress_of}
-use Rattle.passing.specs.Laws.{PileRunsLaw, PileStartLaw}
+use Rattle.passing.specs.Laws.{PileCoversLaw, PileEndsLaw, PileRunsLaw, PileStartLaw}
 use Rattle.passing.proofs.Starting.{start_law}
 
 -- what a cloud holds keeps the law of surveys, and its waits are up to the delay
@@ -31,6 +36,8 @@ record Good (k : CloudState) : Type 0 where
 -- good to what is good
 record IsHost (p : Pile) : Type 0 where
   pub situation : (k : CloudState) → (p.means k).situation ≡ k.held.situation
+  pub load : (k : CloudState) → (p.means k).service.load ≡ load_of k.waits k.held
+  pub longest : (k : CloudState) → (p.means k).service.profile.longest ≡ k.delay
   pub sane : (k : CloudState) → Good k → Sane (p.means k).service
   pub answered : (o : Order) (k : CloudState) → Good k →
       Answered o (p.means k) (p.means (p.does o k).after) (p.does o k).answer
@@ -49,6 +56,8 @@ cloud_sane k g = record { waits = g.waits; height = omega arith }
 cloud_host : IsHost cloud_alone
 cloud_host = record {
   situation = λ k. refl;
+  load = λ k. refl;
+  longest = λ k. refl;
   sane = cloud_sane;
   answered = λ o k g. answers o k g.lawful g.waits;
   good = λ o k g.
@@ -73,6 +82,8 @@ module _ (p : Pile) (h : IsHost p) where
   layer_host : IsHost (verifying p)
   layer_host = record {
     situation = h.situation;
+    load = h.load;
+    longest = h.longest;
     sane = λ k g. watched_sane (p.means k).service (h.sane k g);
     answered = λ o k g. relayed_answers stands served o k _ _ (h.sane k g) (relays o k g);
     good = λ o k g. elim (cases_Bool (stopped o (p.means k))) [ inl e ↦ rw e g | inr e ↦ rw e (h.good o k g) ];
@@ -80,8 +91,8 @@ module _ (p : Pile) (h : IsHost p) where
 
   -- a step of a pile is a step of a run, and leads from what is good to what is good
   stepped : (o : Option Order) (a : PileProgress) → Good a.cloud →
-      Stepped o (progress_of p a) (pile_step p o a).answer (pile_step p o a).after × Good (next_progress p o a).cloud ×
-      ((pile_step p o a).after ≡ progress_of p (next_progress p o a))
+      Stepped o (progress_of p a) (pile_step p o a).answer (pile_step p o a).progress × Good (next_progress p o a).cloud ×
+      ((pile_step p o a).progress ≡ progress_of p (next_progress p o a))
   stepped (Some o) a g =
       (record { host = h.answered o a.cloud g; place = refl; made = refl; ended = refl }, h.good o a.cloud g, refl)
   stepped None a g = (refl, g, refl)
@@ -121,3 +132,23 @@ pile_start_law u o xs os ok passes =
 pub pile_runs_law : PileRunsLaw
 pile_runs_law u o os n ok =
     let k = fresh_cloud_of u o in steps (pile_of o.layers) (pile_host o.layers) os n (pile_begun k) (fresh_good u o ok)
+
+-- a fresh cloud allows as much as its limits
+fresh_load : (u : Universe) (o : HostOptions) →
+    ((fresh u o).service.load.creations ≡ min o.instances 256) × ((fresh u o).service.load.bindings ≡ min o.bindings 2048)
+fresh_load u o =
+    let h = (pile_host o.layers).load (fresh_cloud_of u o) in (
+      ap (λ (l : Load). l.creations) h ∙ ap (λ n. min o.instances 256 - n) (instances_none 256 empty (λ z. refl)),
+      ap (λ (l : Load). l.bindings) h ∙ ap (λ n. min o.bindings 2048 - n) (bindings_none 32 256 empty (λ p x y. refl)),
+    )
+
+-- so they cover what its limits cover
+pub pile_covers_law : PileCoversLaw
+pile_covers_law u o os few less = let l = fresh_load u o in rw (l.0, l.1) (few, less)
+
+-- and the run comes to its end
+pub pile_ends_law : PileEndsLaw
+pile_ends_law u o xs os ok passes few less =
+    let r = pile_runs_law u o os (length os * (min o.delay 8 + 1)) ok in
+    let w = (pile_host o.layers).longest (fresh_cloud_of u o) in
+    ends_law os (fresh u o) _ (pile_start_law u o xs os ok passes) r.0 (pile_covers_law u o os few less) (rw (w, r.1) (omega arith))

@@ -37,8 +37,8 @@ next_progress p None a = a
 
 -- the step from there
 abbrev pub pile_step : Pile → Option Order → PileProgress → Step
-pile_step p (Some o) a = record { answer = Some (p.does o a.cloud).answer; after = progress_of p (next_progress p (Some o) a) }
-pile_step p None a = record { answer = None; after = progress_of p a }
+pile_step p (Some o) a = record { answer = Some (p.does o a.cloud).answer; progress = progress_of p (next_progress p (Some o) a) }
+pile_step p None a = record { answer = None; progress = progress_of p a }
 
 -- so many steps of the script
 unfoldable pub pile_steps : Pile → List Order → PileProgress → ℕ → List Step
