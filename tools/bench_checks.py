@@ -11,7 +11,7 @@ import sys
 import tempfile
 import time
 
-from bench_hosts import ORDERS, all_ports, filled, harbour
+from bench_hosts import all_ports, filled, harbour
 from check_cases import crowd
 from plan_cases import MOST_LINES, longest
 from planning import plan

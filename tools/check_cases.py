@@ -525,8 +525,8 @@ def planned_rows():
         if number or (random and int(label.split()[1].rstrip(":")) not in CHECKED_RANDOM):
             continue
         if random or 4 <= len(orders) < 20 and len(data) < 100:
-            lines = len(orders) if random else by_hand.count("/") + 1
-            yield f"planned: {label}", data, "/".join(orders), f"passes {lines}"
+            answer = None if random else f"passes {by_hand.count('/') + 1}"
+            yield f"planned: {label}", data, "/".join(orders), answer
 
 
 def some_universe(draw):
@@ -724,21 +724,21 @@ def checked(label, data, lines, by_hand, host=None):
 
 
 def drafts_table():
-    """The rows of the data file (universe, draft), and what is printed of them."""
-    rows, out = "", "drafts\n"
+    """The table of the data file (universe, draft), and what is printed of them."""
+    table, out = "", "drafts\n"
     for label, data, text, by_hand in DRAFTS:
         notation = noted(text)
-        rows += f"{label} = {data.hex()} {notation}\n"
+        table += f"{label} = {data.hex()} {notation}\n"
         out += f"{label}:\n{checked(label, data, lines_of(notation), by_hand)}\n"
-    return rows, out
+    return table, out
 
 
 def standing_table():
     """The same of drafts and hosts (universe, orders, draft)."""
-    rows, out = "", "standing\n"
+    table, out = "", "standing\n"
     for label, data, orders, text, by_hand, *counts in STANDING:
         notations = noted(orders), noted(text)
-        rows += f"{label} = {data.hex()} {' '.join(notations)}\n"
+        table += f"{label} = {data.hex()} {' '.join(notations)}\n"
         before, lines = map(lines_of, notations)
         if by_hand and counts == [None, None]:
             out += f"{label}:\n{checked(label, data, lines, by_hand)}\n"
@@ -747,4 +747,4 @@ def standing_table():
         sizes = [len(part) for part in host]
         assert counts in (sizes, [None, None]), f"{label}: {sizes}, by hand {counts}"
         out += f"{label}:\n{checked(label, data, lines, by_hand, host)}\ninstances {sizes[0]}, bindings {sizes[1]}\n"
-    return rows, out
+    return table, out

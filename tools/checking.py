@@ -75,7 +75,11 @@ def check(universe, lines, host=None, whole=None):
         if number is not None:
             return f"refused 44 at {place}: {number}"
         suspects = replay.take(order)
-        if not gap_free(universe, replay.config) if whole else any(replay.gap(*suspect) for suspect in suspects):
+        if whole:
+            has_gap = not gap_free(universe, replay.config)
+        else:
+            has_gap = any(replay.gap(*suspect) for suspect in suspects)
+        if has_gap:
             return f"refused 45 at {place}"
         if order[0] == "b" and len(replay.bindings) > MOST_BINDINGS:
             return f"refused 46 at {place}"

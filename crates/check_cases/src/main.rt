@@ -12,6 +12,7 @@ use console::hex::parse_hex;
 use console::report::read_universe;
 use hosts::host::give;
 use hosts::survey::Survey;
+use layers::verifying::Verifying;
 use lines::decode;
 use rows::show_table;
 use scripts::script_lines;
@@ -23,6 +24,12 @@ use universe::held::Universe;
 const LARGEST: Limits = Limits {
     instances: 256,
     bindings: 2048,
+};
+
+// Limits that leave no room.
+const NO_ROOM: Limits = Limits {
+    instances: 0,
+    bindings: 0,
 };
 
 // What a call made, or none where it was refused.
@@ -74,13 +81,25 @@ fn print_answer(rt: &HostRuntime, answer: Result<String, Failure<String>>) -> an
     Ok(rt.print(answer.or_else(Failure::into_refusal)?)?)
 }
 
-// The check of the draft against a cloud of the universe that was given the orders, and what then stands in it.
-fn show_check(
+// The check of the draft against the host, and what then stands in it.
+fn show_check<S: Survey>(rt: &HostRuntime, host: &S, draft: &[u32]) -> anyhow::Result<()> {
+    let answer = check(Draft { lines: draft }, host).map(|_| ());
+    print_answer(rt, answer_line(rt.alloc(), draft.len(), answer))?;
+    Ok(println!(rt; "instances {}, bindings {}", host.instances(), host.bindings())?)
+}
+
+// The check of the draft against a cloud of the universe that was given the orders. Where there are none, it
+// is a slow cloud with no room, under a layer: waits and allowances are not regarded.
+fn show_on_cloud(
     rt: &HostRuntime,
     universe: Universe,
     orders: &[u32],
     draft: &[u32],
 ) -> anyhow::Result<()> {
+    if orders.is_empty() {
+        let host = Verifying::over(Cloud::open(universe, NO_ROOM, 8));
+        return show_check(rt, &host, draft);
+    }
     let mut cloud = Cloud::open(universe, LARGEST, 0);
     for line in orders {
         if let Ok(order) = decode(*line) {
@@ -88,13 +107,7 @@ fn show_check(
             let _ = give(&mut cloud, order);
         }
     }
-    let answer = check(Draft { lines: draft }, &cloud).map(|_| ());
-    print_answer(rt, answer_line(rt.alloc(), draft.len(), answer))?;
-    Ok(println!(rt;
-        "instances {}, bindings {}",
-        cloud.instances(),
-        cloud.bindings()
-    )?)
+    show_check(rt, &cloud, draft)
 }
 
 // A row with a universe and a draft, which have a blank between them.
@@ -118,7 +131,7 @@ fn show_standing(rt: &HostRuntime, row: &str) -> anyhow::Result<()> {
         return Ok(println!(rt; "a row that cannot be read")?);
     };
     match read_universe(rt.alloc(), &universe) {
-        Ok(universe) => show_check(rt, universe, &orders, &draft),
+        Ok(universe) => show_on_cloud(rt, universe, &orders, &draft),
         Err(failure) => Ok(rt.print(failure.into_refusal()?)?),
     }
 }
