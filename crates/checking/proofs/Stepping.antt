@@ -24,7 +24,7 @@ use Rattle.hosts.proofs.Offending.{bind_range, lawful_after, lawful_below, none_
 use Rattle.checking.specs.declared.refusal.LineFault.TheVariants.{Gap, TooManyBindings}
 use Rattle.checking.specs.Judging.{line_judged, order_judged, refused_by, refused_if, situation, told_judged}
 
--- what is good differs from what is bad
+-- 0 and 1 are not the same
 module _ {X : Type 0} where
   pub never : ◌≡◌ {A = ℕ} 0 1 → X
   never e = absurd (omega arith)

@@ -7,5 +7,5 @@ loop-place-init c = passed_first _ _ _ (search rules)
 
 pub loop-place-preserved : goal.loop-place-preserved
 loop-place-preserved c =
-    passed_more _ _ _ c.loop-place.table c.replay_at.new.table c.loop-place.invariant.rest (omega arith) (search rules) c.loop-place.invariant.large
-    c.replay_at.ensures.kept.0 c.replay_at.ensures.kept.1
+    passed_more _ _ _ c.loop-place.table c.replay_at.new.table c.loop-place.invariant.rest (omega arith) (search rules)
+    c.loop-place.invariant.large c.replay_at.ensures.kept.0 c.replay_at.ensures.kept.1
