@@ -10,7 +10,7 @@ use Rattle.model.specs.Counts.{bindings, instances}
 use Rattle.model.proofs.Counting.{bindings_none, instances_none}
 use Rattle.model.proofs.Searches.{refuted}
 use Rattle.hosts.specs.Survey.{Situation, Lawful, bindings_of, instances_of}
-use Rattle.checking.specs.Checking.{EmptyLaw, is_empty}
+use Rattle.checking.specs.Checking.{TellsEmpty, is_empty}
 
 -- a sum that is 0 has only terms that are 0
 sum_zero : (f : ℕ → ℕ) (n : ℕ) → sum_below f n ≡ 0 → (y : ℕ) → y < n → f y ≡ 0
@@ -78,6 +78,6 @@ empty_counted s e =
     let unbound = ap (bindings 32 256) e ∙ bindings_none 32 256 empty (λ p x y. refl) in
     and_from _ _ (eq-eqb _ _ none) (eq-eqb _ _ unbound)
 
--- in a survey, the counts are 0 exactly where nothing stands
-pub empty_law : EmptyLaw
-empty_law s law = (counted_empty s law, empty_counted s)
+-- so where the counts are told to be 0, that is told exactly if nothing stands
+pub tells_empty : (s : Situation) → Lawful s → (r : Bool) → r ≡ is_empty s → TellsEmpty s r
+tells_empty s law r is = ((λ e. counted_empty s law (sym is ∙ e)), (λ e. is ∙ empty_counted s e))

@@ -1,5 +1,5 @@
--- A line that is told as bad is the first bad line. Assumes nothing.
-use Rattle.std.proofs.Common.{◌≡◌, ℕ, suc, ◌+◌, ◌<◌, ◌≤◌, Bool, true, false, cond, ◌⊎◌, List, [], ◌∷◌, length, take, slice_index, Some, None, Ok, Err, Option, Result, refl, sym, ap, ◌∙◌, subst, inl, inr, arith}
+-- What is refused is refused rightly: a line that is told as bad is the first bad line. Assumes nothing.
+use Rattle.std.proofs.Common.{◌≡◌, ℕ, suc, ◌+◌, ◌<◌, ◌≤◌, Bool, true, false, cond, ◌||◌, ltb, ◌⊎◌, List, [], ◌∷◌, length, take, slice_index, Some, None, Ok, Err, Option, Result, refl, sym, ap, ◌∙◌, subst, inl, inr, arith}
 use Rattle.std.specs.Result.{IsOk, is_ok}
 use Rattle.std.proofs.lemmas.Bool.{leb-true}
 use Rattle.model.specs.declared.binding.Binding.{Binding}
@@ -27,10 +27,10 @@ use Rattle.universe.proofs.Sounds.{sound}
 use Rattle.checking.specs.declared.refusal.LineFault.{LineFault}
 use Rattle.checking.specs.declared.refusal.LineFault.TheVariants.{NotALine, Illegal, Gap, TooManyBindings}
 use Rattle.checking.specs.declared.refusal.CheckRefusal.{CheckRefusal}
-use Rattle.checking.specs.declared.refusal.CheckRefusal.TheVariants.{Length, NotEmpty, AtLine}
-use Rattle.checking.specs.Judging.{after_line, line_judged, order_judged, refused_by, refused_if, replayed, situation, told_judged}
-use Rattle.checking.specs.Passing.{FirstBad, IsBad, RefusedAtFirst}
-use Rattle.checking.proofs.Judged.{PassesFrom, none_pass, one_more}
+use Rattle.checking.specs.declared.refusal.CheckRefusal.TheVariants.{Length, AtLine}
+use Rattle.checking.specs.Judging.{after_line, length_judged, line_judged, order_judged, refused_by, refused_if, replayed, situation, told_judged}
+use Rattle.checking.specs.Passing.{FirstBad, IsBad, IsRight, RefusedRightly}
+use Rattle.checking.proofs.Judged.{PassesFrom, leads_of, length_passes, none_pass, one_more, sized}
 use Rattle.checking.proofs.Stepping.{Good, Stands, after_below, empty_stands, line_good, never, overfull}
 
 -- an order that has a line fits its fields
@@ -124,13 +124,12 @@ record BadFrom (u : Universe) (c : Config) (xs : List ℕ) (k : ℕ) (fault : Li
   passes : PassesFrom u c (take k xs) orders
   bad : IsBad u (after c orders) (slice_index xs k) fault
 
--- where a line from a place on is told as bad, it is the first of them, or the first passes and it is one of the others
-line_told_bad : (i place : ℕ) (fault : LineFault) (r : Result Config LineFault)
-    (rest : Config → Result (Unit {0}) CheckRefusal) →
-    after_line i r rest ≡ Err (AtLine place fault) →
-    ((place ≡ i) × (r ≡ Err fault)) ⊎ ((d : Config) × (r ≡ Ok d) × (rest d ≡ Err (AtLine place fault)))
-line_told_bad i place fault (Ok d) rest h = inr (d, refl, h)
-line_told_bad i place fault (Err e) rest h = inl (cc, cc)
+-- where lines from a place on are refused, the first of them is told as bad, or it passes and the others are refused
+line_refused : (i : ℕ) (e : CheckRefusal) (r : Result Config LineFault)
+    (rest : Config → Result (Unit {0}) CheckRefusal) → after_line i r rest ≡ Err e →
+    ((fault : LineFault) × (e ≡ AtLine i fault) × (r ≡ Err fault)) ⊎ ((d : Config) × (r ≡ Ok d) × (rest d ≡ Err e))
+line_refused i e (Ok d) rest h = inr (d, refl, h)
+line_refused i e (Err fault) rest h = inl (fault, cc, refl)
 
 module _ (u : Universe) where
   -- the first line is bad
@@ -151,49 +150,67 @@ module _ (u : Universe) where
         bad = b.bad;
       }
 
-  -- by induction over the lines: the line that is told is bad, and the lines before it pass
-  replayed_bad : (xs : List ℕ) (i : ℕ) (c : Config) → Stands u c → (place : ℕ) (fault : LineFault) →
-      replayed u i c xs ≡ Err (AtLine place fault) → (k : ℕ) × (place ≡ i + k) × BadFrom u c xs k fault
+  -- by induction over the lines: where they are refused, a line is told, it is bad, and the lines before it pass
+  replayed_bad : (xs : List ℕ) (i : ℕ) (c : Config) → Stands u c → (e : CheckRefusal) → replayed u i c xs ≡ Err e →
+      (k : ℕ) × (fault : LineFault) × (e ≡ AtLine (i + k) fault) × BadFrom u c xs k fault
   unfolding replayed
-  replayed_bad [] i c h place fault e = never cc
-  replayed_bad (x ∷ xs) i c h place fault e =
-      elim (line_told_bad i place fault (line_judged (situation u c) x) (λ d. replayed u (suc i) d xs) e) [
-        | inl t ↦ (0, omega (arith, t.0), bad_here c h x xs fault (line_bad u c h x fault t.1))
-        | inr t ↦ let g = line_good u c h x t.0 t.1 in
-            let left = subst (λ d. replayed u (suc i) d xs ≡ Err (AtLine place fault)) g.2 t.2 in
-            let r = replayed_bad xs (suc i) (result_of g.0 c) g.3.next place fault left in
-            (suc r.0, omega (arith, r.1), bad_later c h x g.0 xs r.0 fault g.1 g.3 r.2)
+  replayed_bad [] i c h e r = never cc
+  replayed_bad (x ∷ xs) i c h e r =
+      elim (line_refused i e (line_judged (situation u c) x) (λ d. replayed u (suc i) d xs) r) [
+        | inl t ↦
+            let here : i ≡ i + 0 = omega arith in
+            (0, t.0, t.1 ∙ ap (λ n. AtLine n t.0) here, bad_here c h x xs t.0 (line_bad u c h x t.0 t.2))
+        | inr t ↦
+            let g = line_good u c h x t.0 t.1 in
+            let left = subst (λ d. replayed u (suc i) d xs ≡ Err e) g.2 t.2 in
+            let b = replayed_bad xs (suc i) (result_of g.0 c) g.3.next e left in
+            let later : suc i + b.0 ≡ i + suc b.0 = omega arith in (
+              suc b.0,
+              b.1,
+              b.2 ∙ ap (λ n. AtLine n b.1) later,
+              bad_later c h x g.0 xs b.0 b.1 g.1 g.3 b.3,
+            )
       ]
 
--- from empty on, the places are those of the lines
-from_empty : (u : Universe) (xs : List ℕ) (place : ℕ) (fault : LineFault) →
-    (k : ℕ) × (place ≡ 0 + k) × BadFrom u empty xs k fault → FirstBad u xs place fault
-from_empty u xs place fault (k, e, b) =
-    let at : FirstBad u xs k fault = record {
-      inside = b.inside;
-      orders = b.orders;
-      told = b.passes.told;
-      run = b.passes.run;
-      bindings = b.passes.bindings;
-      bad = b.bad;
-    } in
-    let same : place ≡ k = omega (arith, e) in
-    rw same at
+-- from empty on, the bad line is the first of no more than 32,768
+first_bad : (u : Universe) (xs : List ℕ) (k : ℕ) (fault : LineFault) → length xs ≤ 32768 → BadFrom u empty xs k fault →
+    FirstBad u xs k fault
+first_bad u xs k fault few b = record {
+  few = few;
+  inside = b.inside;
+  orders = b.orders;
+  leads = leads_of u (take k xs) b.orders b.passes;
+  bad = b.bad;
+}
 
--- so a line that replaying them from empty tells is the first bad line
-pub replayed_first : (u : Universe) (xs : List ℕ) → Valid u → RefusedAtFirst u xs (replayed u 0 empty xs)
-replayed_first u xs ok = by (replayed u 0 empty xs) refl
-  where
-    by : (r : Result (Unit {0}) CheckRefusal) → replayed u 0 empty xs ≡ r → RefusedAtFirst u xs r
-    by (Ok tt) e = tt
-    by (Err Length) e = tt
-    by (Err NotEmpty) e = tt
-    by (Err (AtLine place fault)) e =
-        from_empty u xs place fault (replayed_bad u xs 0 empty (empty_stands u ok) place fault e)
+module _ (occupied : Type 0) (u : Universe) (xs : List ℕ) where
+  -- what is refused for the number of lines is refused rightly
+  pub length_right : (e : CheckRefusal) → length_judged xs ≡ Err e → IsRight occupied u xs e
+  length_right e r = by (ltb (length xs) 1 || ltb 32768 (length xs)) refl
+    where
+      by : (b : Bool) → (ltb (length xs) 1 || ltb 32768 (length xs)) ≡ b → IsRight occupied u xs e
+      by true t =
+          let same : Length ≡ e = cc in
+          subst (IsRight occupied u xs) same (λ some few. let passes = length_passes xs (some, few) in never cc)
+      by false t = never cc
 
--- the same in a universe that the code holds
-pub told_first : (h : Held) (xs : List ℕ) (r : Result (Unit {0}) CheckRefusal) →
-    r ≡ replayed (universe_in h) 0 empty xs → RefusedAtFirst (universe_in h) xs r
-told_first h xs r is =
-    subst (λ (a : Result (Unit {0}) CheckRefusal). RefusedAtFirst (universe_in h) xs a) (sym is)
-    (replayed_first (universe_in h) xs (sound h.tables h.sound).valid)
+  -- so is what replaying the lines from empty refuses, where their number is not refused
+  pub replayed_right : Valid u → length_judged xs ≡ Ok tt → (e : CheckRefusal) → replayed u 0 empty xs ≡ Err e →
+      IsRight occupied u xs e
+  replayed_right ok sizes e r =
+      let b = replayed_bad u xs 0 empty (empty_stands u ok) e r in
+      let first = first_bad u xs b.0 b.1 (sized xs sizes).1 b.3 in
+      let at : e ≡ AtLine b.0 b.1 = b.2 ∙ ap (λ n. AtLine n b.1) (omega arith) in
+      subst (IsRight occupied u xs) (sym at) first
+
+-- in a universe that the code holds, what is refused is refused rightly: for the number of lines
+pub length_refused : (h : Held) (xs : List ℕ) (e : CheckRefusal) → Err e ≡ length_judged xs →
+    IsRight ⊥ (universe_in h) xs e
+length_refused h xs e is = length_right ⊥ (universe_in h) xs e (sym is)
+
+-- and for a line
+pub told_first : (h : Held) (xs : List ℕ) (r : Result (Unit {0}) CheckRefusal) → length_judged xs ≡ Ok tt →
+    r ≡ replayed (universe_in h) 0 empty xs → RefusedRightly ⊥ (universe_in h) xs r
+told_first h xs (Ok tt) sizes is = tt
+told_first h xs (Err e) sizes is =
+    replayed_right ⊥ (universe_in h) xs (sound h.tables h.sound).valid sizes e (sym is)

@@ -18,15 +18,23 @@ use Rattle.checking.specs.declared.refusal.LineFault.{LineFault}
 use Rattle.checking.specs.declared.refusal.CheckRefusal.{CheckRefusal}
 use Rattle.checking.specs.declared.refusal.CheckRefusal.TheVariants.{Length}
 use Rattle.checking.specs.Judging.{after_line, and_then, judged, length_judged, line_judged, refused_if, replayed, situation}
-use Rattle.checking.specs.Passing.{Passes, RefusedUnless}
+use Rattle.checking.specs.Passing.{Leads, Passes, RefusedUnless}
 use Rattle.checking.proofs.Stepping.{Good, Stands, empty_stands, good_line, line_good, never}
 
--- the lines pass as these orders, from c on
+-- the lines pass as these orders, from c on: from empty on, they lead up to the last of them
 pub record PassesFrom (u : Universe) (c : Config) (xs : List ℕ) (os : List Order) : Type 0 where
   pub told : map decoded xs ≡ map Ok os
   pub run : RunsFrom u c os
   pub range : All InRange os
   pub bindings : (before rest : List Order) → os ≡ before ++ rest → bindings 32 256 (after c before) ≤ 2048
+
+-- what passes from empty on leads up to its last line
+pub leads_of : (u : Universe) (xs : List ℕ) (os : List Order) → PassesFrom u empty xs os → Leads u xs os
+leads_of u xs os p = record { told = p.told; run = p.run; range = p.range; bindings = p.bindings }
+
+-- and what leads up to its last line passes from empty on
+from_leads : (u : Universe) (xs : List ℕ) (os : List Order) → Leads u xs os → PassesFrom u empty xs os
+from_leads u xs os l = record { told = l.told; run = l.run; range = l.range; bindings = l.bindings }
 
 -- lists with the same first value and the same others
 cons_parts : {X : Type 0} (x y : X) (xs ys : List X) → x ∷ xs ≡ y ∷ ys → (x ≡ y) × (xs ≡ ys)
@@ -114,13 +122,13 @@ not_refused true e h = never cc
 not_refused false e h = refl
 
 -- where the number of lines is not refused, there are so many
-sized : (xs : List ℕ) → length_judged xs ≡ Ok tt → Sized xs
+pub sized : (xs : List ℕ) → length_judged xs ≡ Ok tt → Sized xs
 sized xs e =
     let p = or_parts (ltb (length xs) 1) (ltb 32768 (length xs)) (not_refused _ Length e) in
     (ltb-false (length xs) 1 p.0, ltb-false 32768 (length xs) p.1)
 
 -- and so many are not refused
-length_passes : (xs : List ℕ) → Sized xs → length_judged xs ≡ Ok tt
+pub length_passes : (xs : List ℕ) → Sized xs → length_judged xs ≡ Ok tt
 length_passes xs (some, few) = rw (le-ltb (length xs) 1 some, le-ltb 32768 (length xs) few)
 
 -- lines that are judged good pass
@@ -129,15 +137,13 @@ judged_passes u xs ok e =
     let b = both_pass (length_judged xs) (replayed u 0 empty xs) e in
     let s = sized xs b.0 in
     let r = replayed_passes u xs 0 empty (empty_stands u ok) b.1 in
-    (r.0, record { some = s.0; few = s.1; told = r.1.told; run = r.1.run; range = r.1.range; bindings = r.1.bindings })
+    (r.0, record { some = s.0; few = s.1; leads = leads_of u xs r.0 r.1 })
 
 -- lines that pass are judged good
 pub passes_judged : (u : Universe) (xs : List ℕ) → Valid u → Passes u xs → judged u xs ≡ Ok tt
 passes_judged u xs ok (os, p) =
-    let from : PassesFrom u empty xs os =
-    record { told = p.told; run = p.run; range = p.range; bindings = p.bindings } in
     pass_both (length_judged xs) (replayed u 0 empty xs) (length_passes xs (p.some, p.few))
-    (passes_replayed u xs os 0 empty (empty_stands u ok) from)
+    (passes_replayed u xs os 0 empty (empty_stands u ok) (from_leads u xs os p.leads))
 
 -- in a universe that the code holds, lines are not refused exactly if they pass
 pub refused_unless : (h : Held) (xs : List ℕ) (r : Result (Unit {0}) CheckRefusal) → r ≡ judged (universe_in h) xs →

@@ -122,7 +122,7 @@ pub(crate) fn replay(universe: Universe, lines: &[u32]) -> Result<(), CheckRefus
 }
 
 // Judges the lines in the universe: they pass, or the refusal.
-#[tactic(auto, using(crate::proofs::Judged::refused_unless, crate::proofs::Judged::refused_after, crate::proofs::FirstBad::told_first))]
+#[tactic(auto, using(crate::proofs::Judged::refused_unless, crate::proofs::Judged::refused_after, crate::proofs::FirstBad::length_refused, crate::proofs::FirstBad::told_first))]
 pub fn judge(universe: &Universe, lines: &[u32]) -> Result<(), CheckRefusal>
     ensures answer { result ≡ judged (universe_in universe.now) lines.now }
     ensures law { RefusedUnless (universe_in universe.now) lines.now result }
