@@ -49,10 +49,12 @@ planned_passes_law u goal xs os n ok is answer =
     record {
       some = omega (arith, long, some);
       few = omega (arith, long, short);
-      told = told;
-      run = rw w.2 reached.0;
-      range = All-weaker (λ o. IsOk (encoded o)) InRange encoded_range os lines;
-      bindings = λ before rest e. omega (arith, size.2 before rest (sym w.2 ∙ e) 32 256);
+      leads = record {
+        told = told;
+        run = rw w.2 reached.0;
+        range = All-weaker (λ o. IsOk (encoded o)) InRange encoded_range os lines;
+        bindings = λ before rest e. omega (arith, size.2 before rest (sym w.2 ∙ e) 32 256);
+      };
     }
 
 -- and where nothing stands the check passes them
