@@ -85,7 +85,11 @@ fn print_answer(rt: &HostRuntime, answer: Result<String, Failure<String>>) -> an
 fn show_check<S: Survey>(rt: &HostRuntime, host: &S, draft: &[u32]) -> anyhow::Result<()> {
     let answer = check(Draft { lines: draft }, host).map(|_| ());
     print_answer(rt, answer_line(rt.alloc(), draft.len(), answer))?;
-    Ok(println!(rt; "instances {}, bindings {}", host.instances(), host.bindings())?)
+    Ok(println!(rt;
+        "instances {}, bindings {}",
+        host.instances(),
+        host.bindings()
+    )?)
 }
 
 // The check of the draft against a cloud of the universe that was given the orders. Where there are none, it

@@ -1,5 +1,5 @@
 -- Fresh piles are starts, and what they do gives runs. Assumes nothing.
-use Rattle.std.proofs.Common.{◌≡◌, ℕ, zero, suc, ◌+◌, ◌-◌, ◌*◌, ◌≤◌, min, List, length, Some, None, Ok, Err, Option, slice_get, refl, ap, inl, inr, arith}
+use Rattle.std.proofs.Common.{◌≡◌, ℕ, zero, suc, ◌+◌, ◌*◌, ◌≤◌, min, List, length, Some, None, Ok, Err, Option, slice_get, refl, ap, inl, inr, arith}
 use mathlib.Core.Bool.{false≢true}
 use Rattle.std.proofs.lemmas.Bool.{cases_Bool}
 use Rattle.model.specs.declared.order.Order.{Order}
@@ -139,8 +139,7 @@ fresh_load : (u : Universe) (o : HostOptions) →
 fresh_load u o =
     let h = (pile_host o.layers).load (fresh_cloud_of u o) in
     let creations = ap (λ (l : Load). l.creations) h in
-    let bindings = ap (λ (l : Load). l.bindings) h in
-    (
+    let bindings = ap (λ (l : Load). l.bindings) h in (
       omega (arith, creations, instances_none 256 empty (λ z. refl)),
       omega (arith, bindings, bindings_none 32 256 empty (λ p x y. refl)),
     )
