@@ -1,5 +1,6 @@
 -- The worked cases of the check: by computation, but for the number of bindings, of which there are none.
 use Rattle.std.proofs.Common.{◌≡◌, ℕ, false, true, leb, not, [], ◌∷◌, None, Ok, Err, Result, refl, ap, ◌∙◌}
+use Rattle.std.specs.Fmt.{digits}
 use Rattle.model.specs.declared.order.Order.TheVariants.{Create, Bind, Change}
 use Rattle.model.specs.Bounded.{any_gap, covered, gap_at}
 use Rattle.model.specs.Config.{Config, empty}
@@ -109,4 +110,5 @@ early_checked d is =
     ∙ ap (plan_of d) early
 
 pub check_cases : CheckCases
-check_cases = record { orders = refl; judged = early; checked = early_checked }
+unfolding digits
+check_cases = record { orders = refl; judged = early; shown = refl; checked = early_checked }

@@ -1,5 +1,5 @@
 -- Worked cases of the check.
-use Rattle.std.specs.Prelude.{◌≡◌, ℕ, List, [], ◌∷◌, map, Ok, Err}
+use Rattle.std.specs.Prelude.{◌≡◌, ℕ, List, [], ◌∷◌, map, Ok, Err, codes}
 use Rattle.model.specs.declared.order.Order.TheVariants.{Create, Bind, Change}
 use Rattle.model.specs.Config.{empty}
 use Rattle.lines.specs.Line.{decoded}
@@ -9,6 +9,7 @@ use Rattle.checking.specs.declared.refusal.LineFault.TheVariants.{Gap}
 use Rattle.checking.specs.declared.stages.Draft.{Draft}
 use Rattle.checking.specs.Judging.{judged, situation}
 use Rattle.checking.specs.Checking.{checked}
+use Rattle.checking.specs.Refusals.{check_text}
 use Rattle.harbour.specs.Harbour.{harbour}
 
 -- the lines of a draft in which the roster starts to serve while the lock that it is bound to does not
@@ -20,5 +21,7 @@ pub record CheckCases : Type 0 where
   pub orders : map decoded early_draft ≡ map Ok (Create 0 0 ∷ Create 1 1 ∷ Bind (binding 0 0 1) ∷ Change 1 1 ∷ [])
   -- the last of them leaves a gap
   pub judged : judged harbour early_draft ≡ Err (AtLine 3 Gap)
+  -- which is shown as 45, with its place
+  pub shown : check_text (AtLine 3 Gap) ≡ codes "45 at 3"
   -- and so the check says on every empty host of the harbour
   pub checked : (d : Draft) → d.lines.now ≡ early_draft → checked (situation harbour empty) d ≡ Err (AtLine 3 Gap)
