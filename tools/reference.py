@@ -780,16 +780,19 @@ def plans_table():
     return rows, out
 
 
+def write_case(crate, tables, out):
+    """Writes the data files of a program of cases, and what it has to print."""
+    folder = os.path.join(os.path.dirname(os.path.abspath(__file__)), "..", "crates", crate)
+    os.makedirs(os.path.join(folder, "data"), exist_ok=True)
+    for name, rows in [(os.path.join("data", f"{table}.txt"), rows) for table, rows in tables] + [("stdout", out)]:
+        with open(os.path.join(folder, name), "w") as f:
+            f.write(rows)
+
+
 def main():
     import check_cases  # which stands on this module
 
-    crates = os.path.join(os.path.dirname(os.path.abspath(__file__)), "..", "crates")
-    here = os.path.join(crates, "cases")
-    hosts = os.path.join(crates, "host_cases")
-    plans = os.path.join(crates, "plan_cases")
-    host_rows, host_out = hosts_table()
-    layered_rows, layered_out = layered_table()
-    out = ""
+    tables, out = [], ""
     for name, table, show in [("universes", UNIVERSES, universe_text), ("scripts", SCRIPTS, lines_text), ("orders", PACKS, pack_text)]:
         out += f"{name}\n"
         rows = ""
@@ -797,35 +800,14 @@ def main():
             data = data.encode() if isinstance(data, str) else data
             rows += f"{label} = {data.hex()}\n"
             out += f"{label}:\n{show(data)}"
-        with open(os.path.join(here, "data", name + ".txt"), "w") as f:
-            f.write(rows)
-    with open(os.path.join(hosts, "data", "hosts.txt"), "w") as f:
-        f.write(host_rows)
-    with open(os.path.join(hosts, "data", "layered.txt"), "w") as f:
-        f.write(layered_rows)
-    with open(os.path.join(here, "stdout"), "w") as f:
-        f.write(out)
-    with open(os.path.join(hosts, "stdout"), "w") as f:
-        f.write(host_out + layered_out)
-    closing_rows, closing_out = closings_table()
-    plan_rows, plan_out = plans_table()
-    os.makedirs(os.path.join(plans, "data"), exist_ok=True)
-    with open(os.path.join(plans, "data", "plans.txt"), "w") as f:
-        f.write(plan_rows)
-    with open(os.path.join(plans, "data", "closings.txt"), "w") as f:
-        f.write(closing_rows)
-    with open(os.path.join(plans, "stdout"), "w") as f:
-        f.write(closing_out + plan_out)
-    checks = os.path.join(crates, "check_cases")
-    draft_rows, draft_out = check_cases.drafts_table()
-    standing_rows, standing_out = check_cases.standing_table()
-    os.makedirs(os.path.join(checks, "data"), exist_ok=True)
-    with open(os.path.join(checks, "data", "drafts.txt"), "w") as f:
-        f.write(draft_rows)
-    with open(os.path.join(checks, "data", "standing.txt"), "w") as f:
-        f.write(standing_rows)
-    with open(os.path.join(checks, "stdout"), "w") as f:
-        f.write(draft_out + standing_out)
+        tables.append((name, rows))
+    write_case("cases", tables, out)
+    for crate, first, second in [
+        ("host_cases", ("hosts", hosts_table()), ("layered", layered_table())),
+        ("plan_cases", ("closings", closings_table()), ("plans", plans_table())),
+        ("check_cases", ("drafts", check_cases.drafts_table()), ("standing", check_cases.standing_table())),
+    ]:
+        write_case(crate, [(name, rows) for name, (rows, _) in (first, second)], first[1][1] + second[1][1])
 
 
 if __name__ == "__main__":

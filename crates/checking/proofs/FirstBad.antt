@@ -29,8 +29,8 @@ use Rattle.checking.specs.declared.refusal.LineFault.TheVariants.{NotALine, Ille
 use Rattle.checking.specs.declared.refusal.CheckRefusal.{CheckRefusal}
 use Rattle.checking.specs.declared.refusal.CheckRefusal.TheVariants.{Length, AtLine}
 use Rattle.checking.specs.Judging.{after_line, length_judged, line_judged, order_judged, refused_by, refused_if, replayed, situation, told_judged}
-use Rattle.checking.specs.Passing.{FirstBad, IsBad, IsRight, RefusedRightly}
-use Rattle.checking.proofs.Judged.{PassesFrom, leads_of, length_passes, none_pass, one_more, sized}
+use Rattle.checking.specs.Passing.{RunAs, FirstBad, IsBad, IsRight, RefusedRightly}
+use Rattle.checking.proofs.Judged.{length_passes, none_pass, one_more, sized}
 use Rattle.checking.proofs.Stepping.{Good, Stands, after_below, empty_stands, line_good, never, overfull}
 
 -- an order that has a line fits its fields
@@ -121,7 +121,7 @@ module _ (u : Universe) (c : Config) (h : Stands u c) (x : ℕ) where
 record BadFrom (u : Universe) (c : Config) (xs : List ℕ) (k : ℕ) (fault : LineFault) : Type 0 where
   inside : k < length xs
   orders : List Order
-  passes : PassesFrom u c (take k xs) orders
+  passes : RunAs u c (take k xs) orders
   bad : IsBad u (after c orders) (slice_index xs k) fault
 
 -- where lines from a place on are refused, the first of them is told as bad, or it passes and the others are refused
@@ -179,7 +179,7 @@ first_bad u xs k fault few b = record {
   few = few;
   inside = b.inside;
   orders = b.orders;
-  leads = leads_of u (take k xs) b.orders b.passes;
+  runs = b.passes;
   bad = b.bad;
 }
 

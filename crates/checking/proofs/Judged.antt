@@ -1,6 +1,5 @@
 -- Lines are judged good exactly if they pass. Assumes nothing.
 use Rattle.std.proofs.Common.{◌≡◌, ℕ, suc, ◌≤◌, Bool, true, false, ltb, List, [], ◌∷◌, ◌++◌, length, map, Ok, Err, Result, sym, refl, ap, ◌∙◌, subst}
-use Rattle.std.specs.List.{All}
 use Rattle.std.proofs.lemmas.Bool.{le-ltb, ltb-false, or_parts}
 use Rattle.std.proofs.lemmas.List.Elements.{All-cons, All-head, All-nil, All-tail}
 use Rattle.model.specs.declared.order.Order.{Order}
@@ -18,23 +17,8 @@ use Rattle.checking.specs.declared.refusal.LineFault.{LineFault}
 use Rattle.checking.specs.declared.refusal.CheckRefusal.{CheckRefusal}
 use Rattle.checking.specs.declared.refusal.CheckRefusal.TheVariants.{Length}
 use Rattle.checking.specs.Judging.{after_line, and_then, judged, length_judged, line_judged, refused_if, replayed, situation}
-use Rattle.checking.specs.Passing.{Leads, Passes, RefusedUnless}
+use Rattle.checking.specs.Passing.{RunAs, Passes, RefusedUnless}
 use Rattle.checking.proofs.Stepping.{Good, Stands, empty_stands, good_line, line_good, never}
-
--- the lines pass as these orders, from c on: from empty on, they lead up to the last of them
-pub record PassesFrom (u : Universe) (c : Config) (xs : List ℕ) (os : List Order) : Type 0 where
-  pub told : map decoded xs ≡ map Ok os
-  pub run : RunsFrom u c os
-  pub range : All InRange os
-  pub bindings : (before rest : List Order) → os ≡ before ++ rest → bindings 32 256 (after c before) ≤ 2048
-
--- what passes from empty on leads up to its last line
-pub leads_of : (u : Universe) (xs : List ℕ) (os : List Order) → PassesFrom u empty xs os → Leads u xs os
-leads_of u xs os p = record { told = p.told; run = p.run; range = p.range; bindings = p.bindings }
-
--- and what leads up to its last line passes from empty on
-from_leads : (u : Universe) (xs : List ℕ) (os : List Order) → Leads u xs os → PassesFrom u empty xs os
-from_leads u xs os l = record { told = l.told; run = l.run; range = l.range; bindings = l.bindings }
 
 -- lists with the same first value and the same others
 cons_parts : {X : Type 0} (x y : X) (xs ys : List X) → x ∷ xs ≡ y ∷ ys → (x ≡ y) × (xs ≡ ys)
@@ -48,7 +32,7 @@ line_passes place (Err e) rest h = never cc
 
 module _ (u : Universe) where
   -- no lines pass as no orders
-  pub none_pass : (c : Config) → Stands u c → PassesFrom u c [] []
+  pub none_pass : (c : Config) → Stands u c → RunAs u c [] []
   unfolding RunsFrom after
   none_pass c h = record { told = refl; run = tt; range = All-nil InRange; bindings = places }
     where
@@ -58,7 +42,7 @@ module _ (u : Universe) where
 
   -- a good line and lines that pass after it
   pub one_more : (c : Config) → Stands u c → (x : ℕ) (o : Order) (xs : List ℕ) (os : List Order) →
-      decoded x ≡ Ok o → Good u c o → PassesFrom u (result_of o c) xs os → PassesFrom u c (x ∷ xs) (o ∷ os)
+      decoded x ≡ Ok o → Good u c o → RunAs u (result_of o c) xs os → RunAs u c (x ∷ xs) (o ∷ os)
   unfolding RunsFrom after
   one_more c h x o xs os e g p =
       record {
@@ -76,7 +60,7 @@ module _ (u : Universe) where
 
   -- by induction over the lines: what is replayed to its end passes
   replayed_passes : (xs : List ℕ) (place : ℕ) (c : Config) → Stands u c → replayed u place c xs ≡ Ok tt →
-      (os : List Order) × PassesFrom u c xs os
+      (os : List Order) × RunAs u c xs os
   unfolding replayed
   replayed_passes [] place c h e = ([], none_pass c h)
   replayed_passes (x ∷ xs) place c h e =
@@ -87,7 +71,7 @@ module _ (u : Universe) where
       (g.0 ∷ r.0, one_more c h x g.0 xs r.0 g.1 g.3 r.1)
 
   -- and what passes is replayed to its end
-  passes_replayed : (xs : List ℕ) (os : List Order) (place : ℕ) (c : Config) → Stands u c → PassesFrom u c xs os →
+  passes_replayed : (xs : List ℕ) (os : List Order) (place : ℕ) (c : Config) → Stands u c → RunAs u c xs os →
       replayed u place c xs ≡ Ok tt
   unfolding replayed RunsFrom after
   passes_replayed [] os place c h p = refl
@@ -95,7 +79,7 @@ module _ (u : Universe) where
   passes_replayed (x ∷ xs) (o ∷ os) place c h p =
       let t = cons_parts _ _ (map decoded xs) (map Ok os) p.told in
       let l = good_line u c h x o t.0 p.run.0 (All-head InRange o os p.range) p.run.1 (p.bindings (o ∷ []) os refl) in
-      let others : PassesFrom u (result_of o c) xs os = record {
+      let others : RunAs u (result_of o c) xs os = record {
         told = t.1;
         run = p.run.2;
         range = All-tail InRange o os p.range;
@@ -137,13 +121,13 @@ judged_passes u xs ok e =
     let b = both_pass (length_judged xs) (replayed u 0 empty xs) e in
     let s = sized xs b.0 in
     let r = replayed_passes u xs 0 empty (empty_stands u ok) b.1 in
-    (r.0, record { some = s.0; few = s.1; leads = leads_of u xs r.0 r.1 })
+    (r.0, record { some = s.0; few = s.1; runs = r.1 })
 
 -- lines that pass are judged good
 pub passes_judged : (u : Universe) (xs : List ℕ) → Valid u → Passes u xs → judged u xs ≡ Ok tt
 passes_judged u xs ok (os, p) =
     pass_both (length_judged xs) (replayed u 0 empty xs) (length_passes xs (p.some, p.few))
-    (passes_replayed u xs os 0 empty (empty_stands u ok) (from_leads u xs os p.leads))
+    (passes_replayed u xs os 0 empty (empty_stands u ok) p.runs)
 
 -- in a universe that the code holds, lines are not refused exactly if they pass
 pub refused_unless : (h : Held) (xs : List ℕ) (r : Result (Unit {0}) CheckRefusal) → r ≡ judged (universe_in h) xs →

@@ -8,13 +8,13 @@ use Rattle.model.specs.Gaps.{GapFree}
 use Rattle.model.specs.Orders.{result_of}
 use Rattle.model.proofs.Counting.{create_counts, instances_most}
 use Rattle.model.proofs.GapSearch.{search_law}
-use Rattle.model.proofs.Openings.{opening_law}
 use Rattle.hosts.specs.declared.refusal.Offence.{Offence}
 use Rattle.hosts.specs.declared.refusal.Reason.{Reason}
 use Rattle.hosts.specs.declared.refusal.Reason.TheVariants.{Busy, Gap as Gapped, Full, Illegal as Illegally}
 use Rattle.hosts.specs.Survey.{Situation, Lawful, bindings_of, has_gap}
 use Rattle.hosts.specs.Offences.{offence, refused_if as told_if}
 use Rattle.hosts.specs.Answers.{illegal_or, full_test, is_bind, is_tested, leaves_gap}
+use Rattle.hosts.proofs.Watching.{untested_law}
 use Rattle.hosts.proofs.Offending.{lawful_after, lawful_below, offence_none}
 use Rattle.table.specs.declared.table.Table.{Table}
 use Rattle.table.specs.Table.{Held, applied, held_of, lawful_of, load_of, situation_of, table_rule, told}
@@ -32,22 +32,9 @@ module _ (s : Situation) (law : Lawful s) where
   found_none free = (search_law 256 s.universe s.config law.valid (lawful_below s law)).1 free
 
 -- an order that is not tested for gaps leaves none, where there was none
-module _ (s : Situation) (law : Lawful s) (none : has_gap s ≡ false) where
-  after_free : (o : Order) → is_tested o ≡ false → offence o s ≡ None → GapFree s.universe (result_of o s.config)
-  after_free (Create z t) e n x p g =
-      let legal = (offence_none s law (Create z t) n).0 in
-      opening_law s.universe s.config (Create z t) law.valid (free_of s law none) legal x p g
-  after_free (Bind b) e n x p g =
-      let legal = (offence_none s law (Bind b) n).0 in
-      opening_law s.universe s.config (Bind b) law.valid (free_of s law none) legal x p g
-  after_free (Delete z) e n x p g =
-      let legal = (offence_none s law (Delete z) n).0 in
-      opening_law s.universe s.config (Delete z) law.valid (free_of s law none) legal x p g
-  after_free (Change z q) e n x p g = absurd (false≢true (sym e))
-  after_free (Unbind b) e n x p g = absurd (false≢true (sym e))
-
-  pub leaves_none : (o : Order) → is_tested o ≡ false → offence o s ≡ None → leaves_gap o s ≡ false
-  leaves_none o e n = found_none _ (lawful_after s law o n) (after_free o e n)
+pub leaves_none : (s : Situation) → Lawful s → has_gap s ≡ false → (o : Order) → is_tested o ≡ false → offence o s ≡ None →
+    leaves_gap o s ≡ false
+leaves_none s law none o e n = found_none _ (lawful_after s law o n) (untested_law o s law n e (free_of s law none))
 
 pub untested : (t : Table) (o : Order) → has_gap (situation_of t) ≡ false → offence o (situation_of t) ≡ None →
     is_tested o ≡ false → false ≡ leaves_gap o (situation_of t)

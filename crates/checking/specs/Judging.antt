@@ -15,6 +15,7 @@ use Rattle.checking.specs.declared.refusal.LineFault.TheVariants.{NotALine, Ille
 use Rattle.checking.specs.declared.refusal.CheckRefusal.{CheckRefusal}
 use Rattle.checking.specs.declared.refusal.CheckRefusal.TheVariants.{Length, AtLine}
 
+-- what stands in the universe
 abbrev pub situation : Universe → Config → Situation
 situation u c = record { universe = u; config = c }
 

@@ -8,7 +8,7 @@ use Rattle.model.specs.Config.{Config, empty}
 use Rattle.model.specs.Counts.{bindings}
 use Rattle.model.specs.Gaps.{Gap as InGap}
 use Rattle.model.specs.Orders.{Legal, result_of}
-use Rattle.model.specs.Runs.{Run, after}
+use Rattle.model.specs.Runs.{RunsFrom, after}
 use Rattle.lines.specs.Line.{decoded}
 use Rattle.hosts.specs.Laws.{InRange}
 use Rattle.hosts.specs.Offences.{offence}
@@ -18,21 +18,21 @@ use Rattle.checking.specs.declared.refusal.LineFault.{LineFault}
 use Rattle.checking.specs.declared.refusal.LineFault.TheVariants.{NotALine, Illegal, Gap, TooManyBindings}
 use Rattle.checking.specs.Judging.{situation}
 
--- the lines lead up to the last of them: they tell these orders, which are a run (each is legal where it stands, and
--- nothing has a gap after any of them), the numbers of their instances are at most 255, and at every place at most 2,048
--- bindings stand
-pub record Leads (u : Universe) (xs : List ℕ) (os : List Order) : Type 0 where
+-- from c, the lines run as these orders: they tell them; each is legal where it stands, and nothing has a gap after any of
+-- them; the numbers of their instances are at most 255; and at every place at most 2,048 bindings stand
+pub record RunAs (u : Universe) (c : Config) (xs : List ℕ) (os : List Order) : Type 0 where
   pub told : map decoded xs ≡ map Ok os
-  pub run : Run u os
+  pub run : RunsFrom u c os
   pub range : All InRange os
-  pub bindings : (before rest : List Order) → os ≡ before ++ rest → bindings 32 256 (after empty before) ≤ 2048
+  pub bindings : (before rest : List Order) → os ≡ before ++ rest → bindings 32 256 (after c before) ≤ 2048
 
--- the lines pass as these orders: there are 1 to 32,768 lines, and all of them lead there
+-- the lines pass as these orders: there are 1 to 32,768 lines, and from empty they run as these orders
 pub record PassesAs (u : Universe) (xs : List ℕ) (os : List Order) : Type 0 where
   pub some : 1 ≤ length xs
   pub few : length xs ≤ 32768
-  pub leads : Leads u xs os
+  pub runs : RunAs u empty xs os
 
+-- the lines pass
 abbrev pub Passes : Universe → List ℕ → Type 0
 Passes u xs = (os : List Order) × PassesAs u xs os
 
@@ -49,12 +49,12 @@ IsBad u c x Gap = (o : Order) × (decoded x ≡ Ok o) × Legal u c o × (z : ℕ
 IsBad u c x TooManyBindings =
     (b : Binding) × (decoded x ≡ Ok (Bind b)) × Legal u c (Bind b) × (2048 ≤ bindings 32 256 c)
 
--- the line at the place is bad, and none before it: those lead up to it
+-- the line at the place is bad, and none before it: from empty those run as some orders, and it is bad where these end
 pub record FirstBad (u : Universe) (xs : List ℕ) (place : ℕ) (fault : LineFault) : Type 0 where
   pub few : length xs ≤ 32768
   pub inside : place < length xs
   pub orders : List Order
-  pub leads : Leads u (take place xs) orders
+  pub runs : RunAs u empty (take place xs) orders
   pub bad : IsBad u (after empty orders) (slice_index xs place) fault
 
 -- the refusal is right: the number of lines is not one that can pass; something stands in the host; or a line is told as

@@ -6,12 +6,14 @@ use Rattle.checking.specs.declared.refusal.LineFault.TheVariants.{NotALine, Ille
 use Rattle.checking.specs.declared.refusal.CheckRefusal.{CheckRefusal}
 use Rattle.checking.specs.declared.refusal.CheckRefusal.TheVariants.{Length, NotEmpty, AtLine}
 
+-- the number of a bad line's fault
 abbrev pub fault_number : LineFault → ℕ
 fault_number NotALine = 43
 fault_number (Illegal e) = 44
 fault_number Gap = 45
 fault_number TooManyBindings = 46
 
+-- the number of a refusal
 abbrev pub check_number : CheckRefusal → ℕ
 check_number Length = 41
 check_number NotEmpty = 42

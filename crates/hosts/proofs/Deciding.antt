@@ -15,7 +15,7 @@ use Rattle.hosts.specs.declared.load.Load.{Load}
 use Rattle.hosts.specs.Service.{Profile}
 use Rattle.hosts.specs.Offences.{refused_if, offence}
 use Rattle.hosts.specs.Answers.{Meaning, Answer, settled, illegal_or, decision, leaves_gap, full_test, is_tested}
-use Rattle.hosts.specs.Laws.{Expected, Covers, BusyLaw, DoneLaw, RefusedLaw, ExpectedLaw, CoveredLaw, KeptLaw}
+use Rattle.hosts.specs.Laws.{Expected, Covers, BusyLaw, DoneLaw, RefusedLaw, ExpectedLaw, CoveredLaw, KeptLaw, StandsLaw}
 use Rattle.hosts.proofs.Offending.{lawful_after, lawful_below, none_offence}
 
 -- a wait is over or not
@@ -158,3 +158,8 @@ kept_law o m n r sane a =
             },
           )
     ]
+
+-- done orders lead to what keeps the law of surveys, and refused ones leave what stands
+pub stands_law : StandsLaw
+stands_law o m n (Ok x) law a = let d = done_law o m n (Ok x) a refl in rw d.2 (lawful_after m.situation law o d.1)
+stands_law o m n (Err e) law a = rw (refused_law o m n (Err e) e.reason a refl) law

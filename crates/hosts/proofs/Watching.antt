@@ -14,7 +14,7 @@ use Rattle.model.proofs.Openings.{opening_law}
 use Rattle.hosts.specs.Survey.{Situation, Lawful}
 use Rattle.hosts.specs.Offences.{offence}
 use Rattle.hosts.specs.Answers.{Meaning, decision, is_tested, leaves_gap}
-use Rattle.hosts.specs.Laws.{WatchfulLaw}
+use Rattle.hosts.specs.Laws.{UntestedLaw, WatchfulLaw}
 use Rattle.hosts.proofs.Deciding.{decision_free, done_law, refused_law}
 use Rattle.hosts.proofs.Offending.{lawful_after, lawful_below, offence_none}
 
@@ -30,12 +30,12 @@ opens_none u c (Delete z') z p e x = x
 decided_free : (o : Order) (m : Meaning) → decision o m ≡ None → m.service.profile.watchful ≡ true → is_tested o ≡ true → leaves_gap o m.situation ≡ false
 decided_free o m e w t = let h = decision_free o m e in rw (w, t) at h
 
-module _ (o : Order) (s : Situation) (law : Lawful s) (none : offence o s ≡ None) where
-  -- an order that is not tested keeps what stands gap-free
-  untested : is_tested o ≡ false → GapFree s.universe s.config → GapFree s.universe (result_of o s.config)
-  untested e free z p g =
-      opens_none s.universe s.config o z p e (opening_law s.universe s.config o law.valid free (offence_none s law o none).0 z p g)
+-- an order that is not tested keeps what stands gap-free
+pub untested_law : UntestedLaw
+untested_law o s law none e free z p g =
+    opens_none s.universe s.config o z p e (opening_law s.universe s.config o law.valid free (offence_none s law o none).0 z p g)
 
+module _ (o : Order) (s : Situation) (law : Lawful s) (none : offence o s ≡ None) where
   -- and one that leaves no gap is gap-free in its result
   tested : leaves_gap o s ≡ false → GapFree s.universe (result_of o s.config)
   tested e = (search_law 256 s.universe (result_of o s.config) law.valid (lawful_below _ (lawful_after s law o none))).0 e
@@ -50,7 +50,7 @@ watchful_law o m n (Ok x) law w a =
     λ t. rw d.2 (tested o m.situation law d.1 (decided_free o m (sym (a.decided d.0).answer) w t)) in (
       λ free. elim (cases_Bool (is_tested o)) [
         | inl t ↦ after t
-        | inr t ↦ rw d.2 (untested o m.situation law d.1 t free)
+        | inr t ↦ rw d.2 (untested_law o m.situation law d.1 t free)
       ],
       λ e t. after t,
     )

@@ -1,5 +1,5 @@
 -- The laws of the interface, for all code above it. They speak of cases, not of numbers.
-use Rattle.std.specs.Prelude.{◌≡◌, ◌+◌, ◌<◌, ◌≤◌, true, cond, Some, None, Option, ◌≢◌}
+use Rattle.std.specs.Prelude.{◌≡◌, ◌+◌, ◌<◌, ◌≤◌, true, false, cond, Some, None, Option, ◌≢◌}
 use Rattle.model.specs.declared.order.Order.{Order}
 use Rattle.model.specs.declared.order.Order.TheVariants.{Create, Bind, Change, Unbind, Delete}
 use Rattle.model.specs.Config.{WellFormed}
@@ -34,6 +34,17 @@ abbrev pub LawfulLaw : Type 0
 LawfulLaw =
     (s : Situation) (o : Order) → Lawful s → offence o s ≡ None →
     Lawful (record { universe = s.universe; config = result_of o s.config })
+
+-- whatever the order and its answer, what stands at a host keeps the law of surveys
+abbrev pub StandsLaw : Type 0
+StandsLaw =
+    (o : Order) (m n : Meaning) (r : Answer) → Lawful m.situation → Answered o m n r → Lawful n.situation
+
+-- from what is gap-free, an order without offence that is not tested for gaps leads to what is gap-free
+abbrev pub UntestedLaw : Type 0
+UntestedLaw =
+    (o : Order) (s : Situation) → Lawful s → offence o s ≡ None → is_tested o ≡ false → GapFree s.universe s.config →
+    GapFree s.universe (result_of o s.config)
 
 -- an order without offence adds one instance if it is a create and one binding if it is a bind, and no more
 abbrev pub GrowthLaw : Type 0

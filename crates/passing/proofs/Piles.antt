@@ -1,5 +1,5 @@
 -- Fresh piles are starts, and what they do gives runs. Assumes nothing.
-use Rattle.std.proofs.Common.{◌≡◌, ℕ, zero, suc, ◌+◌, ◌*◌, ◌≤◌, min, List, length, Some, None, Ok, Err, Option, slice_get, refl, ap, inl, inr, arith}
+use Rattle.std.proofs.Common.{◌≡◌, ℕ, zero, suc, ◌+◌, ◌*◌, ◌≤◌, min, List, length, Some, None, Option, slice_get, refl, ap, inl, inr, arith}
 use mathlib.Core.Bool.{false≢true}
 use Rattle.std.proofs.lemmas.Bool.{cases_Bool}
 use Rattle.model.specs.declared.order.Order.{Order}
@@ -9,9 +9,8 @@ use Rattle.model.proofs.Counting.{bindings_none, instances_none}
 use Rattle.hosts.specs.declared.load.Load.{Load}
 use Rattle.hosts.specs.Survey.{Lawful, Situation}
 use Rattle.hosts.specs.Service.{Sane, Service}
-use Rattle.hosts.specs.Answers.{Answer, Answered, Gives, Meaning}
-use Rattle.hosts.proofs.Deciding.{done_law, kept_law, refused_law}
-use Rattle.hosts.proofs.Offending.{lawful_after}
+use Rattle.hosts.specs.Answers.{Answered, Gives}
+use Rattle.hosts.proofs.Deciding.{kept_law, stands_law}
 use Rattle.cloud.specs.Cloud.{CloudState, meaning_of}
 use Rattle.cloud.proofs.Serving.{answers}
 use Rattle.table.specs.Table.{load_of}
@@ -43,11 +42,6 @@ record IsHost (p : Pile) : Type 0 where
       Answered o (p.means k) (p.means (p.does o k).after) (p.does o k).answer
   pub good : (o : Order) (k : CloudState) → Good k → Good (p.does o k).after
 
--- whatever a host answers, what stands keeps the law of surveys
-lawful_then : (o : Order) (m n : Meaning) (r : Answer) → Lawful m.situation → Answered o m n r → Lawful n.situation
-lawful_then o m n (Ok x) law a = let d = done_law o m n (Ok x) a refl in rw d.2 (lawful_after m.situation law o d.1)
-lawful_then o m n (Err e) law a = rw (refused_law o m n (Err e) e.reason a refl) law
-
 -- what a good cloud means keeps the law of hosts
 cloud_sane : (k : CloudState) → Good k → Sane (meaning_of k).service
 cloud_sane k g = record { waits = g.waits; height = omega arith }
@@ -62,7 +56,7 @@ cloud_host = record {
   answered = λ o k g. answers o k g.lawful g.waits;
   good = λ o k g.
       let a = answers o k g.lawful g.waits in
-      record { lawful = lawful_then o _ _ _ g.lawful a; waits = (kept_law o _ _ _ (cloud_sane k g) a).2.waits };
+      record { lawful = stands_law o _ _ _ g.lawful a; waits = (kept_law o _ _ _ (cloud_sane k g) a).2.waits };
 }
 
 module _ (p : Pile) (h : IsHost p) where

@@ -49,7 +49,7 @@ planned_passes_law u goal xs os n ok is answer =
     record {
       some = omega (arith, long, some);
       few = omega (arith, long, short);
-      leads = record {
+      runs = record {
         told = told;
         run = rw w.2 reached.0;
         range = All-weaker (λ o. IsOk (encoded o)) InRange encoded_range os lines;

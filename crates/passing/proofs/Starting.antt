@@ -11,6 +11,6 @@ start_law xs os m law sane is passes =
       sane = sane;
       formed = rw is none.0;
       gap_free = rw is none.1;
-      run = rw is passes.leads.run;
-      range = passes.leads.range;
+      run = rw is passes.runs.run;
+      range = passes.runs.range;
     }

@@ -13,7 +13,7 @@ pub record PileProgress : Type 0 where
   pub made : ℕ
   pub ended : ℕ
 
--- the same, by what the pile means
+-- how far it has come in the words of runs, by what the pile means
 abbrev pub progress_of : Pile → PileProgress → Progress
 progress_of p a = record { host = p.means a.cloud; place = a.place; made = a.made; ended = a.ended }
 

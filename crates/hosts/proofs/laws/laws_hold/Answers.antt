@@ -1,7 +1,7 @@
 use Rattle.hosts.proofs.Offending.{legal_law, lawful_law}
 use Rattle.hosts.proofs.Growing.{growth_law}
-use Rattle.hosts.proofs.Deciding.{busy_law, done_law, refused_law, expected_law, covered_law, kept_law}
-use Rattle.hosts.proofs.Watching.{watchful_law}
+use Rattle.hosts.proofs.Deciding.{busy_law, done_law, refused_law, expected_law, covered_law, kept_law, stands_law}
+use Rattle.hosts.proofs.Watching.{untested_law, watchful_law}
 use Rattle.hosts.proofs.laws.laws_hold.Goals as goal
 
 pub returns : goal.returns
@@ -9,6 +9,8 @@ returns c =
     record {
       legal = legal_law;
       lawful = lawful_law;
+      stands = stands_law;
+      untested = untested_law;
       growth = growth_law;
       busy = busy_law;
       done = done_law;
