@@ -18,9 +18,13 @@ lines_of p = p.plan.lines.now
 abbrev pub leases_on : Ticket → ℕ
 leases_on t = t.made - t.ended
 
--- where something stands in the host, start is refused; else the plan stands at place 0, and nothing was made or ended
+-- at its start a plan stands at place 0, and nothing was made or ended
+abbrev pub first_stage : CheckedPlan → RunningPlan × Ticket
+first_stage p = (record { plan = p; place = 0 }, record { made = 0; ended = 0 })
+
+-- where something stands in the host, start is refused
 abbrev pub started : Situation → CheckedPlan → Result (RunningPlan × Ticket) StartRefusal
-started s p = cond (is_empty s) (Ok (record { plan = p; place = 0 }, record { made = 0; ended = 0 })) (Err NotEmpty)
+started s p = cond (is_empty s) (Ok (first_stage p)) (Err NotEmpty)
 
 -- it starts exactly if nothing stands in the host
 abbrev pub StartedUnless : {X : Type 0} → Situation → Result X StartRefusal → Type 0

@@ -1,5 +1,5 @@
 -- What a step does.
-use Rattle.std.specs.Prelude.{◌≡◌, ℕ, ◌+◌, ◌-◌, ◌^◌, cond, Bool, ◌&&◌, min, List, Some, None, Ok, Err, Option, Result, slice_get}
+use Rattle.std.specs.Prelude.{◌≡◌, ℕ, ◌+◌, ◌-◌, ◌^◌, cond, Bool, ◌&&◌, min, List, [], ◌∷◌, Some, None, Ok, Err, Option, Result, slice_get}
 use Rattle.model.specs.declared.order.Order.{Order}
 use Rattle.lines.specs.declared.refusal.LineRefusal.{LineRefusal}
 use Rattle.lines.specs.Line.{decoded}
@@ -81,3 +81,8 @@ module _ {H : Type 0} (s : H → Situation) (v : H → Service) (does : Order �
   abbrev pub Takes : Option Order → Running H → Result (Unit {0}) StepFault → Running H → Type 0
   Takes (Some o) a r b = Given o a r b
   Takes None a r b = (r ≡ Err NoLine) × (b ≡ a)
+
+  -- steps over the lines, one after the other, with these answers
+  unfoldable pub TakesAll : List ℕ → Running H → List (Result (Unit {0}) StepFault) → Running H → Type 0
+  TakesAll xs a [] b = b ≡ a
+  TakesAll xs a (r ∷ rs) b = (c : Running H) × Takes (order_at xs a.place) a r c × TakesAll xs c rs b

@@ -29,7 +29,7 @@ orders_some goal [] some met = let at = (met 0 (pair 0 0) some).1 in not_same cc
 orders_some goal (o ∷ os) some met = omega arith
 
 -- lines that tell orders are as many
-told_length : (xs : List ℕ) (os : List Order) → map decoded xs ≡ map Ok os → length xs ≡ length os
+pub told_length : (xs : List ℕ) (os : List Order) → map decoded xs ≡ map Ok os → length xs ≡ length os
 told_length xs os e = sym (length-map xs decoded) ∙ ap length e ∙ length-map os Ok
 
 -- the planner's lines pass as the orders planned

@@ -1,2 +1,1 @@
-pub mod Piles
 pub mod Laws

@@ -1,5 +1,5 @@
 -- Runs of a script on a pile of layers over a cloud, computed from what the pile does.
-use Rattle.std.specs.Prelude.{ℕ, zero, suc, ◌+◌, cond, ◌&&◌, List, [], ◌∷◌, Some, None, Option, slice_get}
+use Rattle.std.specs.Prelude.{ℕ, zero, suc, ◌+◌, cond, ◌&&◌, List, [], ◌∷◌, Some, None, Option}
 use Rattle.model.specs.declared.order.Order.{Order}
 use Rattle.hosts.specs.Answers.{is_bind, is_done}
 use Rattle.cloud.specs.Cloud.{CloudState}
@@ -40,7 +40,7 @@ abbrev pub pile_step : Pile → Option Order → PileProgress → Step
 pile_step p (Some o) a = record { answer = Some (p.does o a.cloud).answer; progress = progress_of p (next_progress p (Some o) a) }
 pile_step p None a = record { answer = None; progress = progress_of p a }
 
--- so many steps of the script
-unfoldable pub pile_steps : Pile → List Order → PileProgress → ℕ → List Step
-pile_steps p os a zero = []
-pile_steps p os a (suc n) = pile_step p (slice_get os a.place) a ∷ pile_steps p os (next_progress p (slice_get os a.place) a) n
+-- so many steps, where these orders are at the places
+unfoldable pub pile_steps : Pile → (ℕ → Option Order) → PileProgress → ℕ → List Step
+pile_steps p orders a zero = []
+pile_steps p orders a (suc n) = pile_step p (orders a.place) a ∷ pile_steps p orders (next_progress p (orders a.place) a) n

@@ -22,8 +22,8 @@ use Rattle.options.specs.declared.HostOptions.{HostOptions}
 use Rattle.options.specs.declared.Layers.{Layers}
 use Rattle.options.specs.declared.Layers.TheVariants.{None as NoLayer, Verifying, VerifyingTwice}
 use Rattle.piles.specs.Piles.{Pile, cloud_alone, fresh, fresh_cloud_of, pile_of, verifying}
-use Rattle.passing.specs.Piles.{PileProgress, next_progress, pile_begun, pile_step, pile_steps, progress_of}
-use Rattle.passing.specs.Laws.{PileCoversLaw, PileEndsLaw, PileRunsLaw, PileStartLaw}
+use Rattle.pile_runs.specs.Piles.{PileProgress, next_progress, pile_begun, pile_step, pile_steps, progress_of}
+use Rattle.pile_runs.specs.Laws.{PileCoversLaw, PileEndsLaw, PileRunsLaw, PileStartLaw}
 use Rattle.passing.proofs.Starting.{start_law}
 
 -- what a cloud holds keeps the law of surveys, and its waits are up to the delay
@@ -93,7 +93,7 @@ module _ (p : Pile) (h : IsHost p) where
 
   -- so its steps are those of a run
   steps : (os : List Order) (n : ℕ) (a : PileProgress) → Good a.cloud →
-      Steps os (progress_of p a) (pile_steps p os a n) × (length (pile_steps p os a n) ≡ n)
+      Steps os (progress_of p a) (pile_steps p (slice_get os) a n) × (length (pile_steps p (slice_get os) a n) ≡ n)
   unfolding Steps pile_steps
   steps os zero a g = (tt, refl)
   steps os (suc n) a g =

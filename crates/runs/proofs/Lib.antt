@@ -1,0 +1,5 @@
+pub mod Acting
+pub mod Stages
+pub mod Following
+pub mod Promising
+pub mod Answering

@@ -1,0 +1,71 @@
+// What a caller wants to run, and what comes of it.
+ghost use Rattle.std.specs.Prelude.{◌≡◌};
+ghost use Rattle.runs.specs.declared.request.RunRefusal.TheVariants.{Check, Plan, Start};
+
+use checking::refusal::CheckRefusal;
+use executor::fault::{StartRefusal, StepFault};
+use planner::refusal::PlanRefusal;
+
+// What is to be run.
+#[derive(Clone, Copy)]
+pub enum Request<'a> {
+    // A goal, a line in each byte, for which a script is planned.
+    Goal(&'a [u8]),
+    // A script that the caller wrote.
+    Script(&'a [u32]),
+}
+
+// What a caller can do with a run.
+#[derive(Clone, Copy, PartialEq, Eq, Debug)]
+pub enum Action {
+    // Take a step.
+    Step,
+}
+
+// An action of the caller, and the place for its answer.
+#[derive(Clone, Copy)]
+pub struct Act {
+    pub action: Action,
+    pub answer: Option<Result<(), StepFault>>,
+}
+
+// A run that took its actions and was finished: how many lines it had, its place, and the leases.
+#[derive(Clone, Copy, PartialEq, Eq, Debug)]
+pub struct Ran {
+    pub lines: usize,
+    pub place: usize,
+    pub leases: u64,
+}
+
+// Why a request is not run.
+#[derive(Clone, Copy, PartialEq, Eq, Debug)]
+pub enum RunRefusal {
+    Plan(PlanRefusal),
+    Check(CheckRefusal),
+    // What passed the check just before is never refused so.
+    Start(StartRefusal),
+}
+
+impl From<PlanRefusal> for RunRefusal {
+    ghost from_gives = { λ e r. r ≡ Plan e };
+
+    fn from(refusal: PlanRefusal) -> RunRefusal {
+        RunRefusal::Plan(refusal)
+    }
+}
+
+impl From<CheckRefusal> for RunRefusal {
+    ghost from_gives = { λ e r. r ≡ Check e };
+
+    fn from(refusal: CheckRefusal) -> RunRefusal {
+        RunRefusal::Check(refusal)
+    }
+}
+
+impl From<StartRefusal> for RunRefusal {
+    ghost from_gives = { λ e r. r ≡ Start e };
+
+    fn from(refusal: StartRefusal) -> RunRefusal {
+        RunRefusal::Start(refusal)
+    }
+}
