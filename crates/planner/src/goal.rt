@@ -12,7 +12,7 @@ use model::pair::Pair;
 use universe::held::Universe;
 
 // The pair that a line names.
-pub(crate) fn pair_of_line(line: u8) -> Pair
+pub fn pair_of_line(line: u8) -> Pair
     ensures { result ≡ pair_of_line line }
 {
     Pair {

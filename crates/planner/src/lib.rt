@@ -1,7 +1,7 @@
 // The planner: from a goal to the lines of a script that brings it about.
 #![tactic(auto)]
 
-mod goal;
+pub mod goal;
 mod needs;
 mod path;
 pub mod plan;

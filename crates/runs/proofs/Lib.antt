@@ -3,3 +3,4 @@ pub mod Stages
 pub mod Following
 pub mod Promising
 pub mod Answering
+pub mod Meeting

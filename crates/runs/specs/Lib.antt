@@ -1,3 +1,4 @@
 pub mod Refusals
 pub mod Promise
 pub mod Taken
+pub mod Goals

@@ -1,5 +1,5 @@
 -- Which requests are refused, and what the caller's list then holds.
-use Rattle.std.specs.Prelude.{◌≡◌, ◌≢◌, ◌↔◌, ℕ, ◌≤◌, cond, List, length, take, Some, None, Ok, Err, IsOk, Option, Result}
+use Rattle.std.specs.Prelude.{◌≡◌, ◌≢◌, ◌↔◌, ℕ, ◌≤◌, cond, List, length, take, Some, None, Ok, Err, IsOk, Option, Result, decimal}
 use Rattle.model.specs.declared.order.Order.{Order}
 use Rattle.model.specs.Universe.{Universe}
 use Rattle.model.specs.Config.{empty}
@@ -13,10 +13,25 @@ use Rattle.checking.specs.declared.refusal.CheckRefusal.TheVariants.{NotEmpty}
 use Rattle.checking.specs.declared.stages.CheckedPlan.{CheckedPlan}
 use Rattle.checking.specs.Checking.{checked, is_empty}
 use Rattle.checking.specs.Passing.{Passes}
+use Rattle.planner.specs.Refusals.{plan_number}
+use Rattle.checking.specs.Refusals.{check_number, check_text}
+use Rattle.executor.specs.Refusals.{start_number}
 use Rattle.runs.specs.declared.request.Request.{Request}
 use Rattle.runs.specs.declared.request.Request.TheVariants.{Goal, Script}
 use Rattle.runs.specs.declared.request.RunRefusal.{RunRefusal}
-use Rattle.runs.specs.declared.request.RunRefusal.TheVariants.{Plan, Check}
+use Rattle.runs.specs.declared.request.RunRefusal.TheVariants.{Plan, Check, Start}
+
+-- the number of a refusal
+abbrev pub run_number : RunRefusal → ℕ
+run_number (Plan e) = plan_number e
+run_number (Check e) = check_number e
+run_number (Start e) = start_number e
+
+-- its text: as planning, check or start show it
+abbrev pub run_refusal_text : RunRefusal → List ℕ
+run_refusal_text (Plan e) = decimal (plan_number e)
+run_refusal_text (Check e) = check_text e
+run_refusal_text (Start e) = decimal (start_number e)
 
 -- the refusal of an answer, if it is one
 abbrev pub refusal_of : {X : Type 0} → Result X RunRefusal → Option RunRefusal

@@ -1,10 +1,12 @@
 // What a caller wants to run, and what comes of it.
-ghost use Rattle.std.specs.Prelude.{◌≡◌};
+ghost use Rattle.std.specs.Prelude.{◌≡◌, Some};
+ghost use Rattle.runs.specs.Refusals.{lines_run, run_number, run_refusal_text};
 ghost use Rattle.runs.specs.declared.request.RunRefusal.TheVariants.{Check, Plan, Start};
 
 use checking::refusal::CheckRefusal;
 use executor::fault::{StartRefusal, StepFault};
 use planner::refusal::PlanRefusal;
+use std::fmt;
 
 // What is to be run.
 #[derive(Clone, Copy)]
@@ -13,6 +15,18 @@ pub enum Request<'a> {
     Goal(&'a [u8]),
     // A script that the caller wrote.
     Script(&'a [u32]),
+}
+
+impl<'a> Request<'a> {
+    // The lines that are run, as many as `count`, where the list was left so: of a goal, those that planning wrote into it.
+    pub fn lines(self, list: &'a [u32], count: usize) -> &'a [u32]
+        ensures { result.now ≡ lines_run self.entry list.now count }
+    {
+        match self {
+            Request::Goal(_) => &list[..count.min(list.len())],
+            Request::Script(lines) => lines,
+        }
+    }
 }
 
 // What a caller can do with a run.
@@ -67,5 +81,31 @@ impl From<StartRefusal> for RunRefusal {
 
     fn from(refusal: StartRefusal) -> RunRefusal {
         RunRefusal::Start(refusal)
+    }
+}
+
+impl RunRefusal {
+    // The number that is shown for the refusal.
+    pub fn number(self) -> u8
+        ensures { result ≡ run_number self }
+    {
+        match self {
+            RunRefusal::Plan(refusal) => refusal.number(),
+            RunRefusal::Check(refusal) => refusal.number(),
+            RunRefusal::Start(refusal) => refusal.number(),
+        }
+    }
+}
+
+// It is shown as planning, check or start show it.
+impl fmt::Display for RunRefusal {
+    ghost output = { λ r. Some (run_refusal_text r) };
+
+    fn fmt<W: fmt::Write>(&self, f: &mut fmt::Formatter<W>) -> fmt::Result {
+        match self {
+            RunRefusal::Plan(refusal) => write!(f, "{refusal}"),
+            RunRefusal::Check(refusal) => write!(f, "{refusal}"),
+            RunRefusal::Start(refusal) => write!(f, "{refusal}"),
+        }
     }
 }
