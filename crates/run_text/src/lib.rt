@@ -1,0 +1,4 @@
+// What the command `run` prints of a run, made from values.
+#![tactic(auto)]
+
+pub mod texts;
