@@ -1,2 +1,3 @@
 pub mod Piles
 pub mod Laws
+pub mod Runs

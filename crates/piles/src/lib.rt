@@ -21,7 +21,7 @@ use table::limits::Limits;
 use universe::held::Universe;
 
 // An empty cloud of the universe, with the limits and the delay that are chosen.
-fn fresh_cloud(universe: Universe, options: HostOptions) -> Cloud
+pub fn fresh_cloud(universe: Universe, options: HostOptions) -> Cloud
     ensures { cloud_of result ≡ fresh_cloud_of (universe_in universe) options }
 {
     let limits = Limits {

@@ -1,4 +1,5 @@
 // What the command `run` prints of a run, made from values.
 #![tactic(auto)]
 
+pub mod report;
 pub mod texts;
