@@ -1,14 +1,14 @@
 -- Options among the words behind a command: what each word says, one word at a time.
-use Rattle.std.specs.Prelude.{ℕ, Bool, true, false, cond, ◌+◌, List, [], ◌∷◌, is_some, Some, None, Ok, Err, codes, Option, Result, nat_eq}
+use Rattle.std.specs.Prelude.{ℕ, Bool, true, false, cond, ◌+◌, List, [], ◌∷◌, is_some, Some, None, Ok, Err, codes, Option, Result, nat_eq, nat_le}
 use Rattle.std.specs.List.{slice_get, starts_with}
 use Rattle.std.specs.Option.{ok_or, unwrap_or}
 use Rattle.std.specs.Result.{result_map_both}
 use Rattle.std.specs.Str.{bytes_eq}
 use Rattle.text.specs.Written.{number_of}
 use Rattle.options.specs.declared.Flag.{Flag}
-use Rattle.options.specs.declared.Flag.TheVariants.{Instances, Bindings, Delay, Layers as LayersFlag, Room, Out}
+use Rattle.options.specs.declared.Flag.TheVariants.{Instances, Bindings, Delay, Layers as LayersFlag, Room, Out, Script, Steps}
 use Rattle.options.specs.declared.Command.{Command}
-use Rattle.options.specs.declared.Command.TheVariants.{Host, Plan}
+use Rattle.options.specs.declared.Command.TheVariants.{Host, Plan, Run}
 use Rattle.options.specs.declared.Layers.{Layers}
 use Rattle.options.specs.declared.Layers.TheVariants.{None as NoLayer, Verifying, VerifyingTwice}
 use Rattle.options.specs.declared.Given.{Given}
@@ -29,6 +29,8 @@ flag_text Delay = codes "--delay"
 flag_text LayersFlag = codes "--layers"
 flag_text Room = codes "--room"
 flag_text Out = codes "--out"
+flag_text Script = codes "--script"
+flag_text Steps = codes "--steps"
 
 -- the command has the option
 abbrev pub takes : Command → Flag → Bool
@@ -38,12 +40,24 @@ takes Host Delay = true
 takes Host LayersFlag = true
 takes Host Room = false
 takes Host Out = false
+takes Host Script = false
+takes Host Steps = false
 takes Plan Instances = false
 takes Plan Bindings = false
 takes Plan Delay = false
 takes Plan LayersFlag = false
 takes Plan Room = true
 takes Plan Out = true
+takes Plan Script = false
+takes Plan Steps = false
+takes Run Instances = true
+takes Run Bindings = true
+takes Run Delay = true
+takes Run LayersFlag = true
+takes Run Room = false
+takes Run Out = false
+takes Run Script = true
+takes Run Steps = true
 
 -- the flag of a word
 abbrev pub flag_of_text : List ℕ → Result Flag Reason
@@ -53,7 +67,9 @@ flag_of_text w =
     cond (bytes_eq w (codes "--delay")) (Ok Delay) (
     cond (bytes_eq w (codes "--layers")) (Ok LayersFlag) (
     cond (bytes_eq w (codes "--room")) (Ok Room) (
-    cond (bytes_eq w (codes "--out")) (Ok Out) (Err Unknown))))))
+    cond (bytes_eq w (codes "--out")) (Ok Out) (
+    cond (bytes_eq w (codes "--script")) (Ok Script) (
+    cond (bytes_eq w (codes "--steps")) (Ok Steps) (Err Unknown))))))))
 
 -- the layers of a word, from the bottom up
 abbrev pub layers_of_text : List ℕ → Result Layers Reason
@@ -70,19 +86,32 @@ has g Delay = is_some g.delay
 has g LayersFlag = is_some g.layers
 has g Room = is_some g.room
 has g Out = is_some g.out
+has g Script = is_some g.script
+has g Steps = is_some g.steps
 
 -- the number that is the value of a flag, which the word writes
 abbrev pub number_for : Flag → List ℕ → Result ℕ Reason
 number_for f w = ok_or (number_of w) (BadValue f)
 
+-- the number, if it is not above the most
+abbrev pub up_to : ℕ → Option ℕ → Option ℕ
+up_to most (Some n) = cond (nat_le n most) (Some n) None
+up_to most None = None
+
+-- the number of steps that the word writes
+abbrev pub steps_of : List ℕ → Option ℕ
+steps_of w = up_to 1048576 (number_of w)
+
 -- the values with that of a flag, which the word at a place writes; of a path, that place
 abbrev pub with_value_of : Given → Flag → ℕ → List ℕ → Result Given Reason
-with_value_of g Instances place w = result_map_both (λ n. record { instances = Some n; bindings = g.bindings; delay = g.delay; layers = g.layers; room = g.room; out = g.out }) (λ e. e) (number_for Instances w)
-with_value_of g Bindings place w = result_map_both (λ n. record { instances = g.instances; bindings = Some n; delay = g.delay; layers = g.layers; room = g.room; out = g.out }) (λ e. e) (number_for Bindings w)
-with_value_of g Delay place w = result_map_both (λ n. record { instances = g.instances; bindings = g.bindings; delay = Some n; layers = g.layers; room = g.room; out = g.out }) (λ e. e) (number_for Delay w)
-with_value_of g LayersFlag place w = result_map_both (λ l. record { instances = g.instances; bindings = g.bindings; delay = g.delay; layers = Some l; room = g.room; out = g.out }) (λ e. e) (layers_of_text w)
-with_value_of g Room place w = result_map_both (λ n. record { instances = g.instances; bindings = g.bindings; delay = g.delay; layers = g.layers; room = Some n; out = g.out }) (λ e. e) (number_for Room w)
-with_value_of g Out place w = Ok (record { instances = g.instances; bindings = g.bindings; delay = g.delay; layers = g.layers; room = g.room; out = Some place })
+with_value_of g Instances place w = result_map_both (λ n. record g { instances = Some n }) (λ e. e) (number_for Instances w)
+with_value_of g Bindings place w = result_map_both (λ n. record g { bindings = Some n }) (λ e. e) (number_for Bindings w)
+with_value_of g Delay place w = result_map_both (λ n. record g { delay = Some n }) (λ e. e) (number_for Delay w)
+with_value_of g LayersFlag place w = result_map_both (λ l. record g { layers = Some l }) (λ e. e) (layers_of_text w)
+with_value_of g Room place w = result_map_both (λ n. record g { room = Some n }) (λ e. e) (number_for Room w)
+with_value_of g Out place w = Ok (record g { out = Some place })
+with_value_of g Script place w = Ok (record g { script = Some place })
+with_value_of g Steps place w = result_map_both (λ n. record g { steps = Some n }) (λ e. e) (ok_or (steps_of w) (BadValue Steps))
 
 -- the flag, if it has no value yet
 abbrev pub unless_given : Given → Result Flag Reason → Result Flag Reason
@@ -115,7 +144,7 @@ given_from k place g (Some f) (w ∷ ws) = going_on place (with_value_of g f pla
 
 -- the values that the words give to the command
 abbrev pub given_by : Command → List (List ℕ) → Result Given Fault
-given_by k ws = given_from k 0 (record { instances = None; bindings = None; delay = None; layers = None; room = None; out = None }) None ws
+given_by k ws = given_from k 0 (record { instances = None; bindings = None; delay = None; layers = None; room = None; out = None; script = None; steps = None }) None ws
 
 -- the places of the plain words, from a place on; whether the first word is the value of an option
 abbrev pub plain_places : ℕ → Bool → List (List ℕ) → List ℕ

@@ -3,16 +3,20 @@
 #![tactic(auto)]
 
 ghost use Rattle.std.specs.Prelude.{◌≡◌, map, string_bytes};
-ghost use Rattle.options.specs.Options.{flag_of_text, flag_text, given_by, has, host_options_of, layers_of_text, next_flag_of, option_test, plain_place_of, takes, with_value_of};
+ghost use Rattle.options.specs.Options.{flag_of_text, flag_text, given_by, has, host_options_of, layers_of_text, next_flag_of, option_test, plain_place_of, steps_of, takes, with_value_of};
 
 use std::str::FromStr;
 use text::parse_number;
+
+// The most steps that can be asked for.
+const MOST_STEPS: u32 = 1048576;
 
 // The commands that have options.
 #[derive(Clone, Copy, PartialEq, Eq, Debug)]
 pub enum Command {
     Host,
     Plan,
+    Run,
 }
 
 // The options that there are.
@@ -24,6 +28,8 @@ pub enum Flag {
     Layers,
     Room,
     Out,
+    Script,
+    Steps,
 }
 
 // The layers above a cloud.
@@ -43,6 +49,8 @@ pub struct Given {
     pub layers: Option<Layers>,
     pub room: Option<u32>,
     pub out: Option<usize>,
+    pub script: Option<usize>,
+    pub steps: Option<u32>,
 }
 
 // What a host is made from.
@@ -63,7 +71,7 @@ pub enum Reason {
     Twice(Flag),
     // No word is behind the option.
     NoValue(Flag),
-    // The value is no number up to 4294967295, or of layers none of the words for them.
+    // The value is no number up to 4294967295, of steps none up to 1048576, or of layers none of the words for them.
     BadValue(Flag),
 }
 
@@ -86,6 +94,8 @@ impl Flag {
             Flag::Layers => "--layers",
             Flag::Room => "--room",
             Flag::Out => "--out",
+            Flag::Script => "--script",
+            Flag::Steps => "--steps",
         }
     }
 }
@@ -96,8 +106,11 @@ impl Command {
         ensures { result ≡ takes self flag }
     {
         match flag {
-            Flag::Instances | Flag::Bindings | Flag::Delay | Flag::Layers => self == Command::Host,
+            Flag::Instances | Flag::Bindings | Flag::Delay | Flag::Layers => {
+                self == Command::Host || self == Command::Run
+            }
             Flag::Room | Flag::Out => self == Command::Plan,
+            Flag::Script | Flag::Steps => self == Command::Run,
         }
     }
 }
@@ -116,6 +129,8 @@ impl FromStr for Flag {
             "--layers" => Ok(Flag::Layers),
             "--room" => Ok(Flag::Room),
             "--out" => Ok(Flag::Out),
+            "--script" => Ok(Flag::Script),
+            "--steps" => Ok(Flag::Steps),
             _ => Err(Reason::Unknown),
         }
     }
@@ -144,6 +159,13 @@ fn is_option(word: &str) -> bool
     word.starts_with("--")
 }
 
+// The number of steps of a word.
+fn parse_steps(word: &str) -> Option<u32>
+    ensures { result ≡ steps_of word.now }
+{
+    parse_number(word.as_bytes()).filter(|steps| *steps <= MOST_STEPS)
+}
+
 impl Given {
     // The option has a value.
     fn has(self, flag: Flag) -> bool
@@ -156,6 +178,8 @@ impl Given {
             Flag::Layers => self.layers.is_some(),
             Flag::Room => self.room.is_some(),
             Flag::Out => self.out.is_some(),
+            Flag::Script => self.script.is_some(),
+            Flag::Steps => self.steps.is_some(),
         }
     }
 
@@ -186,6 +210,8 @@ impl Given {
             Flag::Layers => given.layers = Some(word.parse()?),
             Flag::Room => given.room = Some(number()?),
             Flag::Out => given.out = Some(place),
+            Flag::Script => given.script = Some(place),
+            Flag::Steps => given.steps = Some(parse_steps(word).ok_or(Reason::BadValue(flag))?),
         }
         Ok(given)
     }
@@ -329,6 +355,7 @@ mod tests {
             &rt,
             &[
                 ("a --steps 3", fault(1, Reason::Unknown)),
+                ("a --script b", fault(1, Reason::Unknown)),
                 ("--", fault(0, Reason::Unknown)),
                 ("--Delay 3", fault(0, Reason::Unknown)),
                 ("--delay=3", fault(0, Reason::Unknown)),
@@ -364,7 +391,7 @@ mod tests {
             place: 1,
             reason: Reason::Unknown,
         };
-        for text in ["a --delay 8", "a --layers v", "a --Room 8"] {
+        for text in ["a --delay 8", "a --layers v", "a --Room 8", "a --steps 3"] {
             let given = words(&rt, text)?;
             assert_eq!(rt;
                 parse_options(Command::Plan, given.as_slice()),
@@ -382,6 +409,37 @@ mod tests {
             reason: Reason::Twice(Flag::Out),
         };
         assert_eq!(rt; parse_options(Command::Plan, given.as_slice()), Err(twice));
+        Ok(())
+    }
+
+    #[test]
+    fn run_options(rt: HostRuntime) -> Result<(), Fail> {
+        let given = words(&rt, "--steps 1048576 a --script b --delay 8 --layers v")?;
+        let parsed = parse_options(Command::Run, given.as_slice());
+        assert_eq!(rt;
+            parsed.map(|given| (given.steps, given.script)),
+            Ok((Some(1048576), Some(4)))
+        );
+        assert_eq!(rt;
+            parsed.map(Given::host_options),
+            host(256, 2048, 8, Layers::Verifying)
+        );
+        for (text, place, reason) in [
+            ("a --steps 1048577", 2, Reason::BadValue(Flag::Steps)),
+            ("a --steps ", 2, Reason::BadValue(Flag::Steps)),
+            ("a --steps", 2, Reason::NoValue(Flag::Steps)),
+            ("--script", 1, Reason::NoValue(Flag::Script)),
+            ("--steps 1 --steps 1", 2, Reason::Twice(Flag::Steps)),
+            ("--script a --script b", 2, Reason::Twice(Flag::Script)),
+            ("a --room 8", 1, Reason::Unknown),
+            ("a --out b", 1, Reason::Unknown),
+        ] {
+            let given = words(&rt, text)?;
+            assert_eq!(rt;
+                parse_options(Command::Run, given.as_slice()),
+                Err(Fault { place, reason })
+            );
+        }
         Ok(())
     }
 

@@ -193,6 +193,7 @@ fn fault_text(reason: Reason) -> &'static str {
         Reason::Twice(_) => "given twice: give each option once",
         Reason::NoValue(_) => "no value: write it behind the option",
         Reason::BadValue(Flag::Layers) => "no such layers: write v or vv",
+        Reason::BadValue(Flag::Steps) => "no number of steps: write decimal digits, up to 1048576",
         Reason::BadValue(_) => "no number: write decimal digits, up to 4294967295",
     }
 }
