@@ -5,9 +5,9 @@ It follows the rules that docs/FORMATS.md and docs/REFUSALS.md state and shares 
 It has the same author as they, so a rule that was misread would be misread in both; so the answers of
 hosts also stand in the table, worked out by hand, and have to be those of the simulation. So do most of the planner's.
 The planner is planning.py, and the universes that are made for it stand in plan_cases.py; the check is checking.py, and its
-drafts stand in check_cases.py.
+drafts stand in check_cases.py; whole runs are in running.py, and their cases in run_cases.py.
 Run from the repository's root, it writes the inputs to crates/cases/data/ and what the program
-`cases` has to print for them to crates/cases/stdout, and so for host_cases, plan_cases and check_cases.
+`cases` has to print for them to crates/cases/stdout, and so for host_cases, plan_cases, check_cases and run_cases.
 """
 import os
 
@@ -791,6 +791,7 @@ def write_case(crate, tables, out):
 
 def main():
     import check_cases  # which stands on this module
+    import run_cases  # and so does this
 
     tables, out = [], ""
     for name, table, show in [("universes", UNIVERSES, universe_text), ("scripts", SCRIPTS, lines_text), ("orders", PACKS, pack_text)]:
@@ -808,6 +809,8 @@ def main():
         ("check_cases", ("drafts", check_cases.drafts_table()), ("standing", check_cases.standing_table())),
     ]:
         write_case(crate, [(name, rows) for name, (rows, _) in (first, second)], first[1][1] + second[1][1])
+    rows, out = run_cases.runs_table()
+    write_case("run_cases", [("runs", rows)], out)
 
 
 if __name__ == "__main__":
