@@ -1,1 +1,3 @@
 pub mod Piles
+pub mod Running
+pub mod Telling

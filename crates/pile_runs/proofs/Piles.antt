@@ -27,13 +27,13 @@ use Rattle.pile_runs.specs.Laws.{PileCoversLaw, PileEndsLaw, PileRunsLaw, PileSt
 use Rattle.passing.proofs.Starting.{start_law}
 
 -- what a cloud holds keeps the law of surveys, and its waits are up to the delay
-record Good (k : CloudState) : Type 0 where
+pub record Good (k : CloudState) : Type 0 where
   pub lawful : Lawful k.held.situation
   pub waits : k.waits ≤ k.delay
 
 -- a pile is a host: it means what the cloud holds, keeps the law of hosts, and answers as a host does, from all that is
 -- good to what is good
-record IsHost (p : Pile) : Type 0 where
+pub record IsHost (p : Pile) : Type 0 where
   pub situation : (k : CloudState) → (p.means k).situation ≡ k.held.situation
   pub load : (k : CloudState) → (p.means k).service.load ≡ load_of k.waits k.held
   pub longest : (k : CloudState) → (p.means k).service.profile.longest ≡ k.delay
@@ -102,7 +102,7 @@ module _ (p : Pile) (h : IsHost p) where
       ((s.0, rw s.2 t.0), omega (arith, t.1))
 
 -- every pile is a host
-pile_host : (l : Layers) → IsHost (pile_of l)
+pub pile_host : (l : Layers) → IsHost (pile_of l)
 pile_host NoLayer = cloud_host
 pile_host Verifying = layer_host _ cloud_host
 pile_host VerifyingTwice = layer_host _ (layer_host _ cloud_host)

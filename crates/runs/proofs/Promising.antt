@@ -22,9 +22,16 @@ use Rattle.runs.specs.declared.request.Ran.{Ran}
 use Rattle.runs.specs.declared.request.Request.{Request}
 use Rattle.runs.specs.declared.request.Request.TheVariants.{Goal, Script}
 use Rattle.runs.specs.Refusals.{lines_run}
-use Rattle.runs.specs.Promise.{AsPlanned, GoalMet, Promised, answers_of}
+use Rattle.runs.specs.Promise.{AsPlanned, GoalMet, Promised, actions_of, answers_of}
 use Rattle.runs.specs.Taken.{RanOver, beginning}
 use Rattle.runs.proofs.Following.{follow}
+
+-- there are as many answers as actions
+pub told_size : (before acts : List Act) (told : List (Result (Unit {0}) StepFault)) → actions_of acts ≡ actions_of before → answers_of acts ≡ map Some told →
+    length told ≡ length before
+told_size before acts told same are =
+    sym (length-map told Some) ∙ ap length (sym are) ∙ length-map acts (λ (a : Act). a.answer)
+    ∙ sym (length-map acts (λ (a : Act). a.action)) ∙ ap length same ∙ length-map before (λ (a : Act). a.action)
 
 -- a goal that the orders reach is met where they lead
 goal_met : (request : Request) (m : Meaning) (os : List Order) (a : Progress) → AsPlanned m.situation.universe request os →
@@ -45,7 +52,7 @@ module _ {H : Type 0} (s : H → Situation) (v : H → Service) (does : Order �
       let start : Start os m = start_law lines os m lawful sane is passes in
       let none : bindings_of (s h) ≡ 0 = rw is (bindings_none 32 256 empty (λ p x y. refl)) in
       let told = ran.acted.told in
-      let size : length told ≡ length before = sizes before acts told ran.acted.actions ran.acted.answers in
+      let size : length told ≡ length before = told_size before acts told ran.acted.actions ran.acted.answers in
       let few : 0 + length told ≤ most = omega (arith, size, short) in
       let f = follow s v does lines os m start passes.runs.told none 0 (beginning h) told ran.last few
       (record { kept = kept_first os m start; made = omega arith }) ran.acted.steps in
@@ -72,8 +79,3 @@ module _ {H : Type 0} (s : H → Situation) (v : H → Service) (does : Order �
             let stands = e.1 ∙ ap (λ c. record { universe = (s h).universe; config = after c os }) is in
             record { place = e.0; stands = stands; met = goal_met request m os (reached (begun m) ts) planned stands };
       }
-    where
-      sizes : (before acts : List Act) (told : List (Result (Unit {0}) StepFault)) → map (λ a. a.action) acts ≡ map (λ a. a.action) before → answers_of acts ≡ map Some told → length told ≡ length before
-      sizes before acts told same are =
-          sym (length-map told Some) ∙ ap length (sym are) ∙ length-map acts (λ (a : Act). a.answer)
-          ∙ sym (length-map acts (λ (a : Act). a.action)) ∙ ap length same ∙ length-map before (λ (a : Act). a.action)
