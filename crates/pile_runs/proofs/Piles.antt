@@ -108,7 +108,7 @@ pile_host Verifying = layer_host _ cloud_host
 pile_host VerifyingTwice = layer_host _ (layer_host _ cloud_host)
 
 -- a fresh cloud is good
-fresh_good : (u : Universe) (o : HostOptions) → Valid u → Good (fresh_cloud_of u o)
+pub fresh_good : (u : Universe) (o : HostOptions) → Valid u → Good (fresh_cloud_of u o)
 fresh_good u o ok = record {
   lawful = record { valid = ok; inst = λ z out. refl; bound = λ p x y b. absurd (false≢true b) };
   waits = omega arith;

@@ -1,5 +1,5 @@
 -- A run on a pile is what the pile does. Assumes nothing.
-use Rattle.std.proofs.Common.{◌≡◌, ℕ, zero, suc, ◌+◌, ◌-◌, ◌<◌, ◌≤◌, ◌&&◌, cond, List, [], ◌∷◌, length, map, Some, None, Ok, Err, Option, Result, slice_get, refl, sym, ap, ◌∙◌, subst, arith}
+use Rattle.std.proofs.Common.{◌≡◌, ℕ, ◌+◌, ◌<◌, ◌≤◌, ◌&&◌, cond, List, [], ◌∷◌, length, map, Some, None, Ok, Option, Result, slice_get, refl, sym, ap, ◌∙◌, arith}
 use Rattle.model.specs.declared.order.Order.{Order}
 use Rattle.lines.specs.Line.{decoded}
 use Rattle.hosts.specs.Survey.{Situation, bindings_of}
@@ -10,7 +10,7 @@ use Rattle.execution.specs.Steps.{Progress, ended_between}
 use Rattle.execution.specs.Laws.{Start}
 use Rattle.executor.specs.declared.fault.StepFault.{StepFault}
 use Rattle.executor.specs.Steps.{Given, Running, Takes, TakesAll, answer_at, most, order_at, progress_of}
-use Rattle.piles.specs.Piles.{Outcome, Pile}
+use Rattle.piles.specs.Piles.{Pile}
 use Rattle.piles.proofs.Piling.{IsPile}
 use Rattle.runs.specs.Promise.{step_answer, step_answers}
 use Rattle.runs.proofs.Following.{Come, given_step, told_at}
@@ -43,12 +43,12 @@ module _ {H : Type 0} (s : H → Situation) (v : H → Service) (does : Order �
       let host : g.next.host ≡ p.means (p.does o k.cloud).after = sym next ∙ means in
       let before : (at a).host ≡ p.means k.cloud = ap (λ (b : Progress). b.host) l.far in
       let place : g.next.place ≡ k.place + cond (is_done (p.does o k.cloud).answer) 1 0 =
-          g.ordered.place ∙ ap (λ (b : Progress). b.place + cond (is_done g.answer) 1 0) l.far ∙ ap (λ q. k.place + cond (is_done q) 1 0) answer in
+      g.ordered.place ∙ ap (λ (b : Progress). b.place + cond (is_done g.answer) 1 0) l.far ∙ ap (λ q. k.place + cond (is_done q) 1 0) answer in
       let made : g.next.made ≡ k.made + cond (is_done (p.does o k.cloud).answer && is_bind o) 1 0 =
-          g.ordered.made ∙ ap (λ (b : Progress). b.made + cond (is_done g.answer && is_bind o) 1 0) l.far ∙ ap (λ q. k.made + cond (is_done q && is_bind o) 1 0) answer in
+      g.ordered.made ∙ ap (λ (b : Progress). b.made + cond (is_done g.answer && is_bind o) 1 0) l.far ∙ ap (λ q. k.made + cond (is_done q && is_bind o) 1 0) answer in
       let ended : g.next.ended ≡ k.ended + ended_between (p.means k.cloud).situation.config (p.means (p.does o k.cloud).after).situation.config =
-          g.ordered.ended ∙ ap (λ (b : Progress). b.ended + ended_between b.host.situation.config g.next.host.situation.config) l.far
-          ∙ ap (λ (n : Meaning). k.ended + ended_between (p.means k.cloud).situation.config n.situation.config) host in (
+      g.ordered.ended ∙ ap (λ (b : Progress). b.ended + ended_between b.host.situation.config g.next.host.situation.config) l.far
+      ∙ ap (λ (n : Meaning). k.ended + ended_between (p.means k.cloud).situation.config n.situation.config) host in (
         record {
           come = rw d.1 d.0;
           far = d.1 ∙ (λ i. record { host = host i; place = place i; made = made i; ended = ended i });

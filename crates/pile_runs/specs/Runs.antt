@@ -1,5 +1,5 @@
 -- What is printed of a request that is run on a fresh pile, computed from what the pile does.
-use Rattle.std.specs.Prelude.{ℕ, zero, suc, ◌+◌, ◌-◌, ◌*◌, min, cond, List, length, map, Some, None, Ok, Err, Option, Result, slice_get}
+use Rattle.std.specs.Prelude.{ℕ, ◌≡◌, zero, suc, ◌+◌, ◌-◌, ◌*◌, ◌^◌, ◌<◌, min, List, length, map, Some, None, Ok, Err, Option, Result, slice_get}
 use Rattle.model.specs.declared.order.Order.{Order}
 use Rattle.model.specs.Universe.{Universe}
 use Rattle.universe.specs.declared.tables.Tables.{Tables}
@@ -7,16 +7,20 @@ use Rattle.universe.specs.Reading.{Read}
 use Rattle.universe.specs.Refusals.{universe_number}
 use Rattle.universe.specs.Tables.{universe_of}
 use Rattle.console.specs.Refused.{refused_line_of}
+use Rattle.hosts.specs.Survey.{Situation}
+use Rattle.hosts.specs.Service.{Service}
+use Rattle.hosts.specs.Answers.{Answer}
 use Rattle.planner.specs.declared.refusal.PlanRefusal.{PlanRefusal}
 use Rattle.planner.specs.Planning.{planned}
 use Rattle.executor.specs.Steps.{order_at}
+use Rattle.runs.specs.declared.request.Act.{Act}
 use Rattle.runs.specs.declared.request.Ran.{Ran}
 use Rattle.runs.specs.declared.request.Request.{Request}
 use Rattle.runs.specs.declared.request.Request.TheVariants.{Goal, Script}
 use Rattle.runs.specs.declared.request.RunRefusal.{RunRefusal}
 use Rattle.runs.specs.Promise.{step_answers}
 use Rattle.runs.specs.Refusals.{run_refusal}
-use Rattle.run_text.specs.Reports.{refused_text, run_text}
+use Rattle.run_text.specs.Reports.{Reported, refused_text, run_text}
 use Rattle.options.specs.declared.HostOptions.{HostOptions}
 use Rattle.piles.specs.Piles.{Pile, fresh, fresh_cloud_of, pile_of}
 use Rattle.pile_runs.specs.Piles.{PileProgress, next_progress, pile_begun, pile_steps, progress_of}
@@ -60,6 +64,19 @@ steps_text p orders a n request lines =
 -- no script is longer, so the list has so many places
 abbrev pub most_lines : ℕ
 most_lines = 11136
+
+-- s and v tell what a host means, and `does` just what it does
+module _ {H : Type 0} (s : H → Situation) (v : H → Service) (does : Order → H → H → Answer → Type 0) where
+  -- the request was run over the host with a list of so many places, and n actions; the text is what this prints
+  pub record StepsReported (request : Request) (h k : H) (n : ℕ) (text : List ℕ) : Type 0 where
+    pub list : List ℕ
+    pub left : List ℕ
+    pub before : List Act
+    pub after : List Act
+    pub room : length list ≡ most_lines
+    pub each : length before ≡ n
+    pub short : n < 2 ^ 63
+    pub reported : Reported s v does request h k list left before after text
 
 -- the lines of a run that is not refused, or that of the refusal
 abbrev pub unless_refused : Option RunRefusal → List ℕ → Result (List ℕ) (List ℕ)

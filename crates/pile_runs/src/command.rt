@@ -2,11 +2,13 @@
 ghost use Rattle.std.specs.Prelude.{◌≡◌, IfOk, string_bytes};
 ghost use Rattle.universe.specs.Reading.{tables_read};
 ghost use Rattle.universe.specs.Held.{universe_in};
-ghost use Rattle.console.specs.Told.{Told};
-ghost use Rattle.pile_runs.specs.Runs.{command_text, line_count, pile_run_text, steps_for, usual_steps};
+ghost use Rattle.console.specs.Told.{IfTold, Told};
+ghost use Rattle.pile_runs.specs.Runs.{StepsReported, command_text, line_count, most_lines, pile_run_text, steps_for, usual_steps};
+ghost use Rattle.run_text.specs.Reports.{RefusedWith};
 
 use console::failure::Failure;
 use console::report::read_universe;
+use hosts::host::Host;
 use layers::verifying::Verifying;
 use options::{HostOptions, Layers};
 use piles::fresh_cloud;
@@ -37,6 +39,25 @@ fn usual_steps(lines: usize, options: HostOptions) -> usize
     lines.min(32768) * (options.delay.min(8) as usize + 1)
 }
 
+// Runs the request on the host, so many steps, with a list that has room for every script; and makes the lines that tell of
+// it, or that of its refusal.
+fn run_steps<B: Host>(
+    alloc: Global,
+    host: &mut B,
+    request: Request<'_>,
+    steps: usize,
+) -> Result<String, Failure<String>>
+    ensures { IfTold result (λ s. StepsReported B.Survey.situation B.service B.does request.entry host.old host.new steps (string_bytes s)) (λ s. RefusedWith (B.Survey.situation host.old) request.entry most_lines (string_bytes s)) }
+{
+    let mut list = vec![in alloc; 0; MOST_LINES]?;
+    let act = Act {
+        action: Action::Step,
+        answer: None,
+    };
+    let mut acts = vec![in alloc; act; steps]?;
+    run_report(alloc, host, request, &mut list, &mut acts)
+}
+
 // Runs the request on a fresh pile, so many steps, and makes the lines that tell of it; or the line of its refusal.
 pub fn pile_run(
     alloc: Global,
@@ -47,28 +68,15 @@ pub fn pile_run(
 ) -> Result<String, Failure<String>>
     ensures { Told string_bytes string_bytes result (pile_run_text (universe_in universe) options request.entry steps) }
 {
-    let mut list = vec![in alloc; 0; MOST_LINES]?;
-    let act = Act {
-        action: Action::Step,
-        answer: None,
-    };
-    let mut acts = vec![in alloc; act; steps]?;
     let mut cloud = fresh_cloud(universe, options);
     match options.layers {
-        Layers::None => run_report(alloc, &mut cloud, request, &mut list, &mut acts),
-        Layers::Verifying => run_report(
-            alloc,
-            &mut Verifying::over(cloud),
-            request,
-            &mut list,
-            &mut acts,
-        ),
-        Layers::VerifyingTwice => run_report(
+        Layers::None => run_steps(alloc, &mut cloud, request, steps),
+        Layers::Verifying => run_steps(alloc, &mut Verifying::over(cloud), request, steps),
+        Layers::VerifyingTwice => run_steps(
             alloc,
             &mut Verifying::over(Verifying::over(cloud)),
             request,
-            &mut list,
-            &mut acts,
+            steps,
         ),
     }
 }

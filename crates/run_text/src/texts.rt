@@ -42,12 +42,17 @@ fn step_line(
 {
     match answer {
         Ok(()) => done_line(alloc, place, order_at(lines, place)),
-        Err(StepFault::NoLine) => format!(in alloc; "{place}: refused {}\n", StepFault::NoLine.number()),
-        Err(StepFault::Refused {
-            place,
-            order,
-            refusal,
-        }) => format!(in alloc; "{place} {order}: refused {refusal}\n"),
+        Err(StepFault::NoLine) => format!(in alloc;
+            "{place}: refused {}\n",
+            StepFault::NoLine.number()
+        ),
+        Err(
+            StepFault::Refused {
+                place,
+                order,
+                refusal,
+            },
+        ) => format!(in alloc; "{place} {order}: refused {refusal}\n"),
     }
 }
 

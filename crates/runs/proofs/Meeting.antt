@@ -1,16 +1,14 @@
 -- What is told of a goal is whether it is met. Assumes nothing.
-use Rattle.std.proofs.Common.{◌≡◌, ℕ, ◌<◌, Bool, true, false, ◌&&◌, List, [], ◌∷◌, All, Some, None, Option, refl, sym, ap, ◌∙◌, inl, inr, arith}
+use Rattle.std.proofs.Common.{◌≡◌, ℕ, ◌<◌, Bool, true, List, Some, None, Option, refl, sym, ◌∙◌, inl, inr}
 use mathlib.Core.Bool.{false≢true}
-use Rattle.std.specs.List.{list_all}
 use Rattle.std.proofs.lemmas.Bool.{and_from, and_parts, cases_lt, eqb-true, eq-eqb}
 use Rattle.std.proofs.lemmas.List.Sums.{AllPass-from_list_all, list_all-from_AllPass}
 use Rattle.std.proofs.lemmas.List.Elements.{All-weaker}
 use Rattle.std.proofs.lemmas.Option.{none-some}
 use Rattle.model.specs.declared.pair.Pair.{Pair}
-use Rattle.model.specs.Search.{any}
 use Rattle.model.proofs.Searches.{any_found, any_some}
 use Rattle.hosts.specs.Survey.{Lawful, Situation}
-use Rattle.plans.specs.Goals.{Attained, Met}
+use Rattle.plans.specs.Goals.{Attained}
 use Rattle.runs.specs.Goals.{TellsMet, attained, is_pair, met}
 
 -- a pair is told by its numbers
@@ -28,7 +26,7 @@ pair_told h o e = rw e (and_from _ _ (eq-eqb h.kind h.kind refl) (eq-eqb h.state
 module _ (s : Situation) (law : Lawful s) where
   -- no instance above 255 stands in a pair
   low : (z : ℕ) (h : Pair) → s.config.inst z ≡ Some h → z < 256
-  low z h e = elim (cases_lt z 256) [ | inl lt ↦ lt | inr ge ↦ absurd (none-some h (sym (law.inst z ge) ∙ e)) ]
+  low z h e = elim (cases_lt z 256) [ inl lt ↦ lt | inr ge ↦ absurd (none-some h (sym (law.inst z ge) ∙ e)) ]
 
   attained_told : (h : Pair) → attained s.config h ≡ true → Attained s.config h
   attained_told h e = let w = any_some _ 256 e in (w.0, pair_is h (s.config.inst w.0) w.2)

@@ -1,5 +1,5 @@
 -- Whether a goal is met, told of a survey.
-use Rattle.std.specs.Prelude.{◌≡◌, ◌↔◌, ℕ, Bool, true, false, ◌&&◌, List, Some, None, Option, ◌==◌}
+use Rattle.std.specs.Prelude.{◌≡◌, ◌↔◌, Bool, true, false, List, Some, None, Option}
 use Rattle.std.specs.List.{list_all}
 use Rattle.model.specs.declared.pair.Pair.{Pair}
 use Rattle.model.specs.Search.{any}

@@ -1,5 +1,4 @@
 use Rattle.pile_runs.proofs.Piles.{pile_covers_law, pile_ends_law, pile_runs_law, pile_start_law}
-use Rattle.pile_runs.proofs.Telling.{request_told}
 use Rattle.pile_runs.proofs.laws.laws_hold.Goals as goal
 
 pub returns : goal.returns

@@ -1,11 +1,10 @@
-use Rattle.std.proofs.Common.{◌≡◌, ◌+◌, ◌<◌, ◌≤◌, ◌++◌, List, length, get_or, None, refl, sym, ap, ◌∙◌, string_bytes, arith}
+use Rattle.std.proofs.Common.{◌≡◌, ◌+◌, ◌<◌, ◌≤◌, ◌++◌, length, get_or, None, ap, ◌∙◌, string_bytes, arith}
 use Rattle.std.proofs.lemmas.List.{length-map, get_or-map}
 use Rattle.executor.specs.Steps.{order_at}
 use Rattle.runs.specs.declared.request.Act.{Act}
 use Rattle.runs.specs.declared.request.Action.TheVariants.{Step}
 use Rattle.runs.specs.Promise.{answers_of}
-use Rattle.run_text.specs.Texts.{answer_text, place_after}
-use Rattle.run_text.proofs.Lines.{Telling, told_all, told_more}
+use Rattle.run_text.proofs.Lines.{told_all, told_more}
 use Rattle.run_text.proofs.texts.answer_lines.Goals as goal
 
 pub loop-act-preserved : goal.loop-act-preserved
