@@ -7,6 +7,7 @@ use Rattle.plans.specs.Plan.{binding}
 use Rattle.harbour.specs.Harbour.{harbour, harbour_file}
 use Rattle.harbour.specs.Plans.{PlanCases}
 use Rattle.harbour.specs.Checks.{CheckCases}
+use Rattle.harbour.specs.Runs.{RunCases}
 use Rattle.lines.specs.Line.{encoded, decoded}
 
 -- lines of orders, and numbers that are no lines
@@ -36,3 +37,4 @@ pub record HarbourCases : Type 0 where
   pub lines : LineCases
   pub plans : PlanCases
   pub checks : CheckCases
+  pub runs : RunCases

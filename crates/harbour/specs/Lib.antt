@@ -1,4 +1,5 @@
 pub mod Harbour
 pub mod Plans
 pub mod Checks
+pub mod Runs
 pub mod Cases
