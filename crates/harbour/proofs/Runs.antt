@@ -1,12 +1,12 @@
 -- The worked cases of steps: a step on a cloud leaves but one thing to answer, and the numbers of instances and bindings
 -- are counted order by order.
-use Rattle.std.proofs.Common.{◌≡◌, ℕ, suc, ◌+◌, ◌-◌, ◌<◌, ◌≤◌, min, false, true, eqb, leb, ltb, cond, ◌&&◌, List, [], ◌∷◌, length, Some, None, Ok, Err, Option, Result, slice_get, sym, refl, ap, ◌∙◌, subst, lit<, arith}
+use Rattle.std.proofs.Common.{◌≡◌, ℕ, suc, ◌+◌, ◌-◌, ◌<◌, ◌≤◌, ◌≢◌, min, false, true, eqb, leb, ltb, cond, ◌&&◌, List, [], ◌∷◌, length, Some, None, Ok, Err, Option, Result, slice_get, sym, refl, ap, ◌∙◌, subst, lit<, arith}
 use Rattle.std.proofs.Math.Nat.{min-le_right}
 use Rattle.model.specs.declared.binding.Binding.{Binding}
 use Rattle.model.specs.declared.order.Order.{Order}
 use Rattle.model.specs.declared.order.Order.TheVariants.{Create, Bind, Change, Unbind}
 use Rattle.model.specs.Bounded.{any_gap, covered, gap_at}
-use Rattle.model.specs.Config.{Config, empty, pair, passes, stands}
+use Rattle.model.specs.Config.{Config, empty, ever_provides, ever_requires, pair, passes, stands}
 use Rattle.model.specs.Counts.{bindings, instances}
 use Rattle.model.specs.Orders.{Bindable, result_of}
 use Rattle.model.specs.Search.{any}
@@ -75,8 +75,8 @@ ends o k = ended_between k.held.situation.config (cloud_after o k).held.situatio
 abbrev Answers : Type 0
 Answers = List (Result (Unit {0}) StepFault)
 
-abbrev All : Running Cloud → Answers → Running Cloud → Type 0
-All a told b = TakesAll cloud_situation cloud_service CloudTakes serving_lines a told b
+abbrev Goes : Running Cloud → Answers → Running Cloud → Type 0
+Goes a told b = TakesAll cloud_situation cloud_service CloudTakes serving_lines a told b
 
 -- what a step answers, and where it leads
 module _ (s : Stage) (o : Order) (x : Answer) (is : cloud_answer (cloud_rule o s.cloud) ≡ x) (a b : Running Cloud)
@@ -124,18 +124,8 @@ record Left (b : Running Cloud) (s : Stage) (told : Answers) (steps : ℕ) : Typ
   pub from : Running Cloud
   pub at : stage_of from ≡ s
   pub few : (s.made ≤ most) × (s.ended ≤ most)
-  pub goes : All from told b
+  pub goes : Goes from told b
   pub long : length told ≡ steps
-
--- the first of them, and those that are left after it
-record First (b : Running Cloud) (o : Order) (a : Running Cloud) (told : Answers) (steps : ℕ) : Type 0 where
-  pub answer : Result (Unit {0}) StepFault
-  pub rest : Answers
-  pub parts : told ≡ answer ∷ rest
-  pub to : Running Cloud
-  pub gave : Given cloud_situation cloud_service CloudTakes o a answer to
-  pub goes : All to rest b
-  pub long : length rest ≡ steps
 
 -- the steps that are left after so many of them
 record After (b : Running Cloud) (s : Stage) (told : Answers) (gone steps : ℕ) : Type 0 where
@@ -143,46 +133,32 @@ record After (b : Running Cloud) (s : Stage) (told : Answers) (gone steps : ℕ)
   pub left : Left b s rest steps
   pub answers : (j : ℕ) → slice_get told (j + gone) ≡ slice_get rest j
 
-module _ (b : Running Cloud) (o : Order) where
-  first : (s : Stage) (told : Answers) (steps : ℕ) → order_at serving_lines s.place ≡ Some o →
-      (l : Left b s told (suc steps)) → First b o l.from told steps
-  unfolding TakesAll
-  first s [] steps line l = let e = l.long in absurd (omega arith)
-  first s (r ∷ rest) steps line l =
-      let is = ap (λ (t : Stage). order_at serving_lines t.place) l.at ∙ line in
-      record {
-        answer = r;
-        rest = rest;
-        parts = refl;
-        to = l.goes.0;
-        gave = subst (λ x. Takes cloud_situation cloud_service CloudTakes x l.from r l.goes.0) is l.goes.1;
-        goes = l.goes.2;
-        long = let e = l.long in omega arith;
-      }
-
-  module _ (s : Stage) (line : order_at serving_lines s.place ≡ Some o) (x : Answer) (is : cloud_answer (cloud_rule o s.cloud) ≡ x) where
-    -- a step, by what the cloud answers
-    one : (xs : Answers) (steps : ℕ) → Left b s xs (suc steps) →
-        After b (moved s o x (ends o s.cloud)) xs 1 steps × (slice_get xs 0 ≡ Some (answer_at s.place o x))
-    one xs steps l =
-        let f = first s xs steps line l in
-        let next : Left b (moved s o x (ends o s.cloud)) f.rest steps = record {
-          from = f.to;
-          at = leads s o x is l.from f.to l.at f.answer f.gave;
-          few = (min-le_right (s.made + cond (is_done x && is_bind o) 1 0) most, min-le_right (s.ended + ends o s.cloud) most);
-          goes = f.goes;
-          long = f.long;
-        } in (
-          record { rest = f.rest; left = next; answers = λ j. ap (λ t. slice_get t (j + 1)) f.parts ∙ ap (slice_get (f.answer ∷ f.rest)) {y = suc j} (omega arith) },
-          ap (λ t. slice_get t 0) f.parts ∙ ap Some (told s o x is l.from f.to l.at f.answer f.gave),
-        )
+-- a step, by what the cloud answers
+one : (b : Running Cloud) (o : Order) (s : Stage) → order_at serving_lines s.place ≡ Some o →
+    (x : Answer) → cloud_answer (cloud_rule o s.cloud) ≡ x → (xs : Answers) (steps : ℕ) → Left b s xs (suc steps) →
+    After b (moved s o x (ends o s.cloud)) xs 1 steps × (slice_get xs 0 ≡ Some (answer_at s.place o x))
+unfolding TakesAll
+one b o s line x is [] steps l = let e = l.long in absurd (omega arith)
+one b o s line x is (r ∷ rest) steps l =
+    let order = ap (λ (t : Stage). order_at serving_lines t.place) l.at ∙ line in
+    let g = subst (λ y. Takes cloud_situation cloud_service CloudTakes y l.from r l.goes.0) order l.goes.1 in
+    let next : Left b (moved s o x (ends o s.cloud)) rest steps = record {
+      from = l.goes.0;
+      at = leads s o x is l.from l.goes.0 l.at r g;
+      few = (min-le_right (s.made + cond (is_done x && is_bind o) 1 0) most, min-le_right (s.ended + ends o s.cloud) most);
+      goes = l.goes.2;
+      long = let e = l.long in omega arith;
+    } in (
+      record { rest = rest; left = next; answers = λ j. ap (slice_get (r ∷ rest)) {y = suc j} (omega arith) },
+      ap Some (told s o x is l.from l.goes.0 l.at r g),
+    )
 
 left_at : {b : Running Cloud} {s : Stage} {xs : Answers} {j k : ℕ} → Left b s xs j → j ≡ k → Left b s xs k
 left_at l e = record { from = l.from; at = l.at; few = l.few; goes = l.goes; long = l.long ∙ e }
 
 -- steps, and steps after them
-onward : (b : Running Cloud) (s t : Stage) (xs : Answers) (m n steps left : ℕ) (f : After b s xs m steps) → After b t f.rest n left → After b t xs (n + m) left
-onward b s t xs m n steps left f g = record {
+onward : {b : Running Cloud} {s t : Stage} {xs : Answers} {m n steps left : ℕ} (f : After b s xs m steps) → After b t f.rest n left → After b t xs (n + m) left
+onward {b} {s} {t} {xs} {m} {n} f g = record {
   rest = g.rest;
   left = g.left;
   answers = λ j. ap (slice_get xs) (omega arith) ∙ f.answers (j + n) ∙ g.answers j;
@@ -235,7 +211,7 @@ module _ (b : Running Cloud) (o : Order) (n : ℕ) (c : Config) (p m e : ℕ) (l
   waits : (xs : Answers) (steps : ℕ) → Left b (stage n c 2 p m e) xs (suc (suc steps)) → After b (stage n c 0 p m e) xs 2 steps
   waits xs steps l =
       let f = busy 2 refl xs (suc steps) l in
-      onward b _ _ xs 1 1 _ _ f (busy 1 refl f.rest steps f.left)
+      onward f (busy 1 refl f.rest steps f.left)
 
 -- the three steps of a line
 passed : {b : Running Cloud} {o : Order} {n : ℕ} {c : Config} {p m e i x j y g total : ℕ} {xs : Answers} → Line o c i x j y →
@@ -245,7 +221,7 @@ passed : {b : Running Cloud} {o : Order} {n : ℕ} {c : Config} {p m e i x j y g
 passed {b} {o} {n} {c} {p} {m} {e} {i} {x} {j} {y} {g} {total} {xs} f line room h steps is =
     let w = waits b o n c p m e line h.rest (suc steps) (left_at h.left (omega (arith, is))) in
     let d = done b o n c p m e line i x j y f room w.rest steps w.left in
-    onward b _ _ xs g 3 _ _ h (onward b _ _ h.rest 2 1 _ _ w d)
+    onward h (onward w d)
 
 -- what stands after so many of the lines
 abbrev c1 : Config
@@ -282,7 +258,7 @@ abbrev c11 : Config
 c11 = result_of (Unbind (binding 0 0 2)) c10
 
 -- how each kind of order moves the counts
-module _ (c : Config) (i x : ℕ) (h : Count c i x) where
+module _ {c : Config} {i x : ℕ} (h : Count c i x) where
   created : (z t : ℕ) → z < 256 → t < 3 → stands (c.inst z) ≡ false → Count (result_of (Create z t) c) (i + 1) x
   created z t low type free =
       let m = count_law 32 256 harbour c (Create z t) (free, type) low in
@@ -293,10 +269,12 @@ module _ (c : Config) (i x : ℕ) (h : Count c i x) where
       let m = count_law 32 256 harbour c (Change z q) follows in
       record { instances = m.0 ∙ h.instances; bindings = m.1 ∙ h.bindings }
 
-  bound : (j : Binding) → j.port < 32 → j.provider < 256 → j.requirer < 256 → Bindable harbour c j.port j.provider j.requirer →
-      Count (result_of (Bind j) c) i (x + 1)
-  bound j lp lx ly fit =
-      let m = count_law 32 256 harbour c (Bind j) fit lp lx ly in
+  bound : (j : Binding) → (j.port < 32) × (j.provider < 256) × (j.requirer < 256) × (j.provider ≢ j.requirer) →
+      ever_provides harbour j.port (c.inst j.provider) ≡ true → ever_requires harbour j.port (c.inst j.requirer) ≡ true →
+      c.bound j.port j.provider j.requirer ≡ false → Count (result_of (Bind j) c) i (x + 1)
+  bound j low provider requirer new =
+      let fit : Bindable harbour c j.port j.provider j.requirer = record { apart = low.3; provider = provider; requirer = requirer; new = new } in
+      let m = count_law 32 256 harbour c (Bind j) fit low.0 low.1 low.2 in
       record { instances = m.0 ∙ h.instances; bindings = m.1 ∙ ap (λ n. n + 1) h.bindings }
 
   unbound : (j : Binding) → j.port < 32 → j.provider < 256 → j.requirer < 256 → c.bound j.port j.provider j.requirer ≡ true →
@@ -312,47 +290,47 @@ empty_count = record { instances = instances_none 256 empty (λ z. refl); bindin
 
 line1 : Line (Create 0 0) empty 0 0 1 0
 unfolding any covered gap_at any_gap result_of
-line1 = record { legal = refl; free = refl; before = empty_count; after = created empty 0 0 empty_count 0 0 (lit< tt) (lit< tt) refl }
+line1 = record { legal = refl; free = refl; before = empty_count; after = created empty_count 0 0 (lit< tt) (lit< tt) refl }
 
 line2 : Line (Change 0 1) c1 1 0 1 0
 unfolding any covered gap_at any_gap result_of
-line2 = record { legal = refl; free = refl; before = line1.after; after = changed c1 1 0 line1.after 0 1 refl }
+line2 = record { legal = refl; free = refl; before = line1.after; after = changed line1.after 0 1 refl }
 
 line3 : Line (Create 1 1) c2 1 0 2 0
 unfolding any covered gap_at any_gap result_of
-line3 = record { legal = refl; free = refl; before = line2.after; after = created c2 1 0 line2.after 1 1 (lit< tt) (lit< tt) refl }
+line3 = record { legal = refl; free = refl; before = line2.after; after = created line2.after 1 1 (lit< tt) (lit< tt) refl }
 
 line4 : Line (Bind (binding 0 0 1)) c3 2 0 2 1
 unfolding any covered gap_at any_gap result_of
-line4 = record { legal = refl; free = refl; before = line3.after; after = bound c3 2 0 line3.after (binding 0 0 1) (lit< tt) (lit< tt) (lit< tt) (record { apart = λ e. omega (arith, e); provider = refl; requirer = refl; new = refl }) }
+line4 = record { legal = refl; free = refl; before = line3.after; after = bound line3.after (binding 0 0 1) (lit< tt, lit< tt, lit< tt, λ e. omega (arith, e)) refl refl refl }
 
 line5 : Line (Change 1 1) c4 2 1 2 1
 unfolding any covered gap_at any_gap result_of
-line5 = record { legal = refl; free = refl; before = line4.after; after = changed c4 2 1 line4.after 1 1 refl }
+line5 = record { legal = refl; free = refl; before = line4.after; after = changed line4.after 1 1 refl }
 
 line6 : Line (Create 2 2) c5 2 1 3 1
 unfolding any covered gap_at any_gap result_of
-line6 = record { legal = refl; free = refl; before = line5.after; after = created c5 2 1 line5.after 2 2 (lit< tt) (lit< tt) refl }
+line6 = record { legal = refl; free = refl; before = line5.after; after = created line5.after 2 2 (lit< tt) (lit< tt) refl }
 
 line7 : Line (Bind (binding 0 0 2)) c6 3 1 3 2
 unfolding any covered gap_at any_gap result_of
-line7 = record { legal = refl; free = refl; before = line6.after; after = bound c6 3 1 line6.after (binding 0 0 2) (lit< tt) (lit< tt) (lit< tt) (record { apart = λ e. omega (arith, e); provider = refl; requirer = refl; new = refl }) }
+line7 = record { legal = refl; free = refl; before = line6.after; after = bound line6.after (binding 0 0 2) (lit< tt, lit< tt, lit< tt, λ e. omega (arith, e)) refl refl refl }
 
 line8 : Line (Change 2 1) c7 3 2 3 2
 unfolding any covered gap_at any_gap result_of
-line8 = record { legal = refl; free = refl; before = line7.after; after = changed c7 3 2 line7.after 2 1 refl }
+line8 = record { legal = refl; free = refl; before = line7.after; after = changed line7.after 2 1 refl }
 
 line9 : Line (Bind (binding 1 1 2)) c8 3 2 3 3
 unfolding any covered gap_at any_gap result_of
-line9 = record { legal = refl; free = refl; before = line8.after; after = bound c8 3 2 line8.after (binding 1 1 2) (lit< tt) (lit< tt) (lit< tt) (record { apart = λ e. omega (arith, e); provider = refl; requirer = refl; new = refl }) }
+line9 = record { legal = refl; free = refl; before = line8.after; after = bound line8.after (binding 1 1 2) (lit< tt, lit< tt, lit< tt, λ e. omega (arith, e)) refl refl refl }
 
 line10 : Line (Change 2 2) c9 3 3 3 3
 unfolding any covered gap_at any_gap result_of
-line10 = record { legal = refl; free = refl; before = line9.after; after = changed c9 3 3 line9.after 2 2 refl }
+line10 = record { legal = refl; free = refl; before = line9.after; after = changed line9.after 2 2 refl }
 
 line11 : Line (Unbind (binding 0 0 2)) c10 3 3 3 2
 unfolding any covered gap_at any_gap result_of
-line11 = record { legal = refl; free = refl; before = line10.after; after = unbound c10 3 3 line10.after (binding 0 0 2) (lit< tt) (lit< tt) (lit< tt) refl }
+line11 = record { legal = refl; free = refl; before = line10.after; after = unbound line10.after (binding 0 0 2) (lit< tt) (lit< tt) (lit< tt) refl }
 
 module _ (b : Running Cloud) (xs : Answers) where
   -- a run that begins on a cloud with room for n instances
@@ -417,26 +395,26 @@ module _ (b : Running Cloud) (xs : Answers) where
       a.answers 2 ∙ w.answers 0 ∙ (one b (Create 2 2) (stage 2 c5 0 5 1 0) refl (Err (refusal Full)) (ap cloud_answer rule) w.rest 0 w.left).1
 
 -- a line is judged good
-good : (x : ℕ) (o : Order) (c : Config) (i a j d : ℕ) → decoded x ≡ Ok o → Line o c i a j d → (is_bind o && leb 2048 a) ≡ false →
+good : (x : ℕ) {o : Order} {c : Config} {i a j d : ℕ} → Line o c i a j d → decoded x ≡ Ok o → (is_bind o && leb 2048 a) ≡ false →
     line_judged (situation harbour c) x ≡ Ok (result_of o c)
 unfolding line_judged
-good x o c i a j d is f room = rw is (judged_done (situation harbour c) o f.legal f.free (rw f.before.bindings room))
+good x {o} {c} f is room = rw is (judged_done (situation harbour c) o f.legal f.free (rw f.before.bindings room))
 
 -- and so are all of them
 serving_judged : replayed harbour 0 empty serving_lines ≡ Ok tt
 unfolding replayed
 serving_judged =
-    rw (good 0x20000000 (Create 0 0) empty 0 0 1 0 refl line1 refl)
-    (rw (good 0x60000002 (Change 0 1) c1 1 0 1 0 refl line2 refl)
-    (rw (good 0x20200010 (Create 1 1) c2 1 0 2 0 refl line3 refl)
-    (rw (good 0x40002000 (Bind (binding 0 0 1)) c3 2 0 2 1 refl line4 refl)
-    (rw (good 0x60200002 (Change 1 1) c4 2 1 2 1 refl line5 refl)
-    (rw (good 0x20400020 (Create 2 2) c5 2 1 3 1 refl line6 refl)
-    (rw (good 0x40004000 (Bind (binding 0 0 2)) c6 3 1 3 2 refl line7 refl)
-    (rw (good 0x60400002 (Change 2 1) c7 3 2 3 2 refl line8 refl)
-    (rw (good 0x40204100 (Bind (binding 1 1 2)) c8 3 2 3 3 refl line9 refl)
-    (rw (good 0x60400004 (Change 2 2) c9 3 3 3 3 refl line10 refl)
-    (rw (good 0x80004000 (Unbind (binding 0 0 2)) c10 3 3 3 2 refl line11 refl) refl))))))))))
+    rw (good 0x20000000 line1 refl refl)
+    (rw (good 0x60000002 line2 refl refl)
+    (rw (good 0x20200010 line3 refl refl)
+    (rw (good 0x40002000 line4 refl refl)
+    (rw (good 0x60200002 line5 refl refl)
+    (rw (good 0x20400020 line6 refl refl)
+    (rw (good 0x40004000 line7 refl refl)
+    (rw (good 0x60400002 line8 refl refl)
+    (rw (good 0x40204100 line9 refl refl)
+    (rw (good 0x60400004 line10 refl refl)
+    (rw (good 0x80004000 line11 refl refl) refl))))))))))
 
 -- the dispatcher serves at last
 serves : c11.inst 2 ≡ Some (pair 2 2)
