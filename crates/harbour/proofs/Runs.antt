@@ -29,7 +29,7 @@ use Rattle.execution.proofs.Ending.{ended_law, ended_same}
 use Rattle.executor.specs.declared.fault.StepFault.{StepFault}
 use Rattle.executor.specs.Steps.{Given, Running, Takes, TakesAll, answer_at, most, order_at}
 use Rattle.harbour.specs.Harbour.{harbour}
-use Rattle.harbour.specs.Runs.{RunCases, Served, full_fault, serving_lines, slow}
+use Rattle.harbour.specs.Runs.{RunCases, Served, dispatcher_fault, serving_lines, slow}
 
 -- a refusal by the cloud
 abbrev refusal : Reason → Refusal
@@ -386,13 +386,23 @@ module _ (b : Running Cloud) (xs : Answers) where
       over (stage 256 c10 0 10 3 0) w.rest w.left
 
   -- where there is no room for the dispatcher
-  no_room : After b (stage 2 empty 2 0 0 0) xs 0 18 → slice_get xs 17 ≡ Some (Err full_fault)
+  no_room : After b (stage 2 empty 2 0 0 0) xs 0 18 →
+      (slice_get xs 15 ≡ Some (Err (dispatcher_fault Busy))) ×
+      (slice_get xs 16 ≡ Some (Err (dispatcher_fault Busy))) ×
+      (slice_get xs 17 ≡ Some (Err (dispatcher_fault Full)))
   unfolding table_rule
   no_room a0 =
       let a = five 2 3 refl refl a0 in
-      let w = waits b (Create 2 2) 2 c5 5 1 0 refl a.rest 1 a.left in
-      let rule : table_rule (Create 2 2) (state 2 c5 0).held ≡ Some Full = rw (line6.legal, line6.before.instances) refl in
-      a.answers 2 ∙ w.answers 0 ∙ (one b (Create 2 2) (stage 2 c5 0 5 1 0) refl (Err (refusal Full)) (ap cloud_answer rule) w.rest 0 w.left).1
+      let w1 = busy b (Create 2 2) 2 c5 5 1 0 refl 2 refl a.rest 2 a.left in
+      let w2 = busy b (Create 2 2) 2 c5 5 1 0 refl 1 refl w1.rest 1 w1.left in
+      let rule : table_rule (Create 2 2) (state 2 c5 0).held ≡ Some Full = rw (line6.legal, line6.before.instances) refl in (
+        a.answers 0 ∙ (one b (Create 2 2) (stage 2 c5 2 5 1 0) refl (Err (refusal Busy)) refl a.rest 2 a.left).1,
+        a.answers 1 ∙ w1.answers 0 ∙ (one b (Create 2 2) (stage 2 c5 1 5 1 0) refl (Err (refusal Busy)) refl w1.rest 1 w1.left).1,
+        a.answers 2
+            ∙ w1.answers 1
+            ∙ w2.answers 0
+            ∙ (one b (Create 2 2) (stage 2 c5 0 5 1 0) refl (Err (refusal Full)) (ap cloud_answer rule) w2.rest 0 w2.left).1,
+      )
 
 -- a line is judged good
 good : (x : ℕ) {o : Order} {c : Config} {i a j d : ℕ} → Line o c i a j d → decoded x ≡ Ok o → (is_bind o && leb 2048 a) ≡ false →

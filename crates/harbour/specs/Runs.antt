@@ -4,7 +4,8 @@ use Rattle.model.specs.declared.order.Order.{Order}
 use Rattle.model.specs.declared.order.Order.TheVariants.{Create, Bind, Change, Unbind}
 use Rattle.model.specs.Config.{empty, pair}
 use Rattle.lines.specs.Line.{decoded}
-use Rattle.hosts.specs.declared.refusal.Reason.TheVariants.{Full}
+use Rattle.hosts.specs.declared.refusal.Reason.{Reason}
+use Rattle.hosts.specs.declared.refusal.Reason.TheVariants.{Busy, Full}
 use Rattle.plans.specs.Plan.{binding}
 use Rattle.checking.specs.Judging.{judged, situation}
 use Rattle.cloud.specs.declared.state.Cloud.{Cloud}
@@ -39,9 +40,9 @@ slow n = record {
   delay = 2;
 }
 
--- the fault of the step at place 5 where there is no room for the dispatcher
-abbrev pub full_fault : StepFault
-full_fault = Refused 5 (Create 2 2) (record { reason = Full; height = 0 })
+-- the fault of a step at place 5, where the dispatcher is to be created, that the cloud refuses for the reason
+abbrev pub dispatcher_fault : Reason → StepFault
+dispatcher_fault e = Refused 5 (Create 2 2) (record { reason = e; height = 0 })
 
 -- from a run's start on the cloud c, steps over the lines answer what is told, and lead to b
 abbrev pub Served : Cloud → List (Result (Unit {0}) StepFault) → Running Cloud → Type 0
@@ -59,8 +60,11 @@ pub record RunCases : Type 0 where
   -- one step fewer, and the last line is still to come
   pub before : (c : Cloud) (told : List (Result (Unit {0}) StepFault)) (b : Running Cloud) → cloud_of c ≡ slow 256 →
       length told ≡ 32 → Served c told b → b.place ≡ 10
-  -- where there is room for two instances, the first step at place 5 that is not put off answers that the cloud is full
+  -- where there is room for two instances, the dispatcher is put off twice, and then the step answers that the cloud is full
   pub full : (c : Cloud) (told : List (Result (Unit {0}) StepFault)) (b : Running Cloud) → cloud_of c ≡ slow 2 →
-      length told ≡ 18 → Served c told b → slice_get told 17 ≡ Some (Err full_fault)
+      length told ≡ 18 → Served c told b →
+      (slice_get told 15 ≡ Some (Err (dispatcher_fault Busy))) ×
+      (slice_get told 16 ≡ Some (Err (dispatcher_fault Busy))) ×
+      (slice_get told 17 ≡ Some (Err (dispatcher_fault Full)))
   -- whose number is 31
-  pub number : fault_number full_fault ≡ 31
+  pub number : fault_number (dispatcher_fault Full) ≡ 31
