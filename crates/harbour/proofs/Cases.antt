@@ -1,23 +1,17 @@
 -- The worked cases hold by computation.
 use Rattle.std.proofs.Common.{refl}
-use Rattle.universe.specs.Sets.{field}
-use Rattle.universe.specs.Packed.{rows}
 use Rattle.model.specs.Search.{any, find_first, sum_below}
 use Rattle.plans.specs.Lists.{lists_below}
 use Rattle.plans.specs.Closing.{lacks, addable, next_pair, grown, closing}
 use Rattle.plans.specs.Needs.{path_within, serves, needed_among}
 use Rattle.plans.specs.Plan.{port_orders, step, walk, build, script_of}
 use Rattle.plans.specs.Script.{script}
-use Rattle.harbour.specs.Cases.{FileCases, LineCases}
+use Rattle.harbour.specs.Cases.{LineCases}
 use Rattle.harbour.specs.Plans.{PlanCases}
 
 pub line_cases : LineCases
 line_cases =
     record { create = refl; created = refl; bind = refl; bound = refl; unbind = refl; unbound = refl; spare = refl; zero = refl }
-
-pub file_cases : FileCases
-unfolding field rows
-file_cases = record { form = refl; size = refl }
 
 pub plan_cases : PlanCases
 unfolding any find_first sum_below lists_below lacks addable next_pair grown closing path_within serves needed_among port_orders step walk build script_of script

@@ -1,3 +1,4 @@
 pub mod Cases
 pub mod Checks
+pub mod Files
 pub mod Runs

@@ -3,8 +3,10 @@ use Rattle.std.specs.Prelude.{◌≡◌, length, Ok, Err}
 use Rattle.model.specs.declared.order.Order.TheVariants.{Create, Bind, Unbind}
 use Rattle.lines.specs.declared.refusal.LineRefusal.TheVariants.{NotALine}
 use Rattle.universe.specs.Packed.{packed_form}
+use Rattle.universe.specs.Reading.{tables_read}
+use Rattle.universe.specs.Tables.{universe_of}
 use Rattle.plans.specs.Plan.{binding}
-use Rattle.harbour.specs.Harbour.{harbour, harbour_file}
+use Rattle.harbour.specs.Harbour.{harbour, harbour_file, harbour_tables}
 use Rattle.harbour.specs.Plans.{PlanCases}
 use Rattle.harbour.specs.Checks.{CheckCases}
 use Rattle.harbour.specs.Runs.{RunCases}
@@ -30,6 +32,10 @@ pub record LineCases : Type 0 where
 pub record FileCases : Type 0 where
   pub form : packed_form harbour ≡ harbour_file
   pub size : length harbour_file ≡ 68
+  -- it is read as these tables
+  pub read : tables_read harbour_file ≡ Ok harbour_tables
+  -- which mean the harbour universe
+  pub means : universe_of harbour_tables ≡ harbour
 
 -- all worked cases, jointly
 pub record HarbourCases : Type 0 where

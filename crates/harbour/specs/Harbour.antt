@@ -1,7 +1,10 @@
 -- The harbour universe: a lock service, a roster that needs the lock, and a dispatcher that needs first the
 -- lock and then the roster.
-use Rattle.std.specs.Prelude.{ℕ, suc, Bool, cond, ◌&&◌, ◌||◌, List, [], ◌∷◌, ◌==◌, nat_lt}
+use Rattle.std.specs.Prelude.{ℕ, suc, Bool, cond, ◌&&◌, ◌||◌, List, [], ◌∷◌, replicate, ◌==◌, nat_lt}
 use Rattle.model.specs.Universe.{Universe}
+use Rattle.universe.specs.declared.tables.State.{State}
+use Rattle.universe.specs.declared.tables.Tables.{Tables}
+use Rattle.universe.specs.Tables.{blank_state, unused_kind}
 
 -- the three numbers are these
 abbrev pub are : ℕ → ℕ → ℕ → ℕ → ℕ → ℕ → Bool
@@ -43,3 +46,19 @@ harbour_file =
     ∷ 0 ∷ 0 ∷ 0 ∷ 0 ∷ 0x80 ∷ 0 ∷ 0 ∷ 0 ∷ 0x20
     ∷ 0 ∷ 0 ∷ 0 ∷ 0 ∷ 0x40 ∷ 0 ∷ 0 ∷ 0 ∷ 0
     ∷ []
+
+-- a state that provides, requires and may change to these packed sets
+abbrev pub entry : ℕ → ℕ → ℕ → State
+entry p r n = record { provided = p; required = r; successors = n }
+
+-- the tables that its file packs: the lock, the roster and the dispatcher, and blanks behind them
+abbrev pub harbour_tables : Tables
+harbour_tables = record {
+  types = 3;
+  ports = 2;
+  kinds =
+      record { count = 2; states = entry 0 0 0x40 ∷ entry 0x80000000 0 0 ∷ replicate 6 blank_state }
+      ∷ record { count = 2; states = entry 0 0 0x40 ∷ entry 0x40000000 0x80000000 0 ∷ replicate 6 blank_state }
+      ∷ record { count = 3; states = entry 0 0 0x40 ∷ entry 0 0x80000000 0x20 ∷ entry 0 0x40000000 0 ∷ replicate 5 blank_state }
+      ∷ replicate 13 unused_kind;
+}

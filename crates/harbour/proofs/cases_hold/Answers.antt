@@ -1,5 +1,6 @@
-use Rattle.harbour.proofs.Cases.{file_cases, line_cases, plan_cases}
+use Rattle.harbour.proofs.Cases.{line_cases, plan_cases}
 use Rattle.harbour.proofs.Checks.{check_cases}
+use Rattle.harbour.proofs.Files.{file_cases}
 use Rattle.harbour.proofs.Runs.{run_cases}
 use Rattle.harbour.proofs.cases_hold.Goals as goal
 
