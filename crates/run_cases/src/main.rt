@@ -92,7 +92,8 @@ fn word_steps(word: &str) -> Option<Option<u32>> {
 }
 
 // The options of a host and the number of steps, in five words.
-fn listed_options<'a, I: Iterator<Item = &'a str>>(words: &mut I) -> Option<(HostOptions, Option<u32>)> {
+fn listed_options(text: &str) -> Option<(HostOptions, Option<u32>)> {
+    let mut words = text.split(' ');
     let instances = parse_number(words.next()?.as_bytes())?;
     let bindings = parse_number(words.next()?.as_bytes())?;
     let delay = parse_number(words.next()?.as_bytes())?;
@@ -111,12 +112,13 @@ fn listed_options<'a, I: Iterator<Item = &'a str>>(words: &mut I) -> Option<(Hos
 
 // The run of a row, whose seven words have blanks between them.
 fn show_run(rt: &HostRuntime, row: &str) -> anyhow::Result<()> {
-    let mut words = row.split(' ');
-    let universe = word_bytes(rt, words.next().unwrap_or(""))?;
-    let request = word_request(rt, words.next().unwrap_or(""))?;
-    let (Some(universe), Some(request), Some((options, steps))) =
-        (universe, request, listed_options(&mut words))
-    else {
+    let (universe, rest) = row.split_once(" ").unwrap_or((row, ""));
+    let (request, options) = rest.split_once(" ").unwrap_or((rest, ""));
+    let (Some(universe), Some(request), Some((options, steps))) = (
+        word_bytes(rt, universe)?,
+        word_request(rt, request)?,
+        listed_options(options),
+    ) else {
         return Ok(println!(rt; "a row that cannot be read")?);
     };
     let request = match &request {

@@ -10,10 +10,12 @@ use model::order::Order;
 use options::{
     Command, Fault, Flag, Given, HostOptions, Layers, Reason, parse_options, plain_place,
 };
+use pile_runs::command::run_command_report;
 use piles::host_command_report;
 use planner::plan::MOST_LINES;
 use planning::closing_text::closing_report;
 use planning::plan_lines::plan_lines;
+use runs::request::Request;
 use scripts::{
     NoOrder, PackFault, lines_report, pack_orders, pack_text, parse_orders, refusal_text,
     script_bytes, script_lines,
@@ -34,10 +36,15 @@ const USAGE: &str = "usage:
   sengoruwa pack ORDERS FILE     pack the orders of a text file into a script
   sengoruwa host UNIVERSE ORDERS [OPTIONS]
                                  give the orders of a text file to a fresh host, one by one
+  sengoruwa run UNIVERSE GOAL [OPTIONS] [--steps N]
+  sengoruwa run UNIVERSE --script SCRIPT [OPTIONS] [--steps N]
+                                 plan the goal, or take the packed script, check it, start it on a fresh host, take N
+                                 steps, and finish
 A goal is its bytes in hexadecimal digits, as 24, or @PATH for a file of these bytes: for each line type 4 bits, state 3,
 one zero bit. --room N (11136) is how many lines the script may have.
 The options of a host: --instances N (256), --bindings N (2048), the most that may stand; --delay D (0), how many
 orders are put off before each that is not; --layers WORD, a letter for each layer from the bottom up: v or vv.
+--steps N, up to 1048576: as many steps are taken; without it lines × (longest wait + 1), the delay being the longest wait.
 An order is written as one of: c INSTANCE TYPE (create), b PORT PROVIDER REQUIRER (bind),
 s INSTANCE STATE (change), u PORT PROVIDER REQUIRER (unbind), d INSTANCE (delete).";
 
@@ -51,8 +58,6 @@ enum Misuse<'a> {
     NoOrder { line: usize, path: &'a str },
     NoGoal(&'a str),
     Option { word: &'a str, reason: Reason },
-    // An example of the program's own cannot be used.
-    Example(&'a str),
 }
 
 impl fmt::Display for Misuse<'_> {
@@ -77,7 +82,6 @@ impl fmt::Display for Misuse<'_> {
                 "{word}: no goal: write its bytes in hexadecimal digits, as 24, or @PATH for a file of them"
             ),
             Misuse::Option { word, reason } => write!(f, "{word}: {}", fault_text(*reason)),
-            Misuse::Example(message) => f.write_str(message),
         }
     }
 }
@@ -275,6 +279,44 @@ fn plan<'a>(rt: &HostRuntime, words: &'a [String]) -> Result<(), Stop<'a>> {
     Ok(rt.print(lines_report(rt.alloc(), &lines)?)?)
 }
 
+// The plain words of the command `run`: the universe, and the goal if no script is given.
+fn run_words(words: &[String], has_script: bool) -> Result<(&str, &str), Misuse<'_>> {
+    if !has_script {
+        return two_words(words);
+    }
+    match (plain_word(words, 0), plain_word(words, 1)) {
+        (Some(universe), None) => Ok((universe, "")),
+        _ => Err(Misuse::Usage),
+    }
+}
+
+// Runs a goal or a packed script on a fresh host of the universe.
+fn run<'a>(rt: &HostRuntime, words: &'a [String]) -> Result<(), Stop<'a>> {
+    let given = command_options(Command::Run, words)?;
+    let script = given.script.and_then(|place| words.get(place));
+    let (universe, goal) = run_words(words, script.is_some())?;
+    let universe = read_file(rt, universe)?;
+    let options = given.host_options();
+    let alloc = rt.alloc();
+    let text = match script {
+        Some(path) => {
+            let lines = read_script(rt, path.as_str())?;
+            run_command_report(
+                alloc,
+                &universe,
+                options,
+                Request::Script(&lines),
+                given.steps,
+            )?
+        }
+        None => {
+            let goal = read_goal(rt, goal)?;
+            run_command_report(alloc, &universe, options, Request::Goal(&goal), given.steps)?
+        }
+    };
+    Ok(rt.print(text)?)
+}
+
 // A slow cloud with one layer that refuses gaps.
 const SLOW_HOST: HostOptions = HostOptions {
     instances: 256,
@@ -282,21 +324,6 @@ const SLOW_HOST: HostOptions = HostOptions {
     delay: 2,
     layers: Layers::Verifying,
 };
-
-// The orders, with the last one also given before the one before it, and each as often as a slow
-// host needs to take one.
-fn orders_with_one_early(alloc: Global, orders: &[Order]) -> Result<Vec<Order>, AllocError> {
-    let mut given = Vec::new(alloc);
-    let [before @ .., serve, release] = orders else {
-        return Ok(given);
-    };
-    for order in before.iter().chain([release, serve, release]) {
-        for _ in 0..=SLOW_HOST.delay {
-            given.push(*order)?;
-        }
-    }
-    Ok(given)
-}
 
 // Exchanges the last two lines.
 fn exchange_last(lines: &mut [u32]) {
@@ -333,21 +360,18 @@ fn demo(rt: &HostRuntime) -> Result<(), Stop<'static>> {
     exchange_last(&mut exchanged);
     print_told(rt, check_report(alloc, &universe_file(), &exchanged))?;
     println!(rt;
-        "Its orders on a slow host, a cloud that puts two orders off before each that it takes, under a layer that"
+        "Planned, checked, started, stepped and finished on a slow host, a cloud that puts two orders off (21) before each"
     )?;
-    println!(rt;
-        "refuses gaps. So each is given three times. The last one is also given too early: the layer refuses it (30), and"
-    )?;
-    println!(rt; "the cloud below, which was not asked, takes the next order at once:")?;
-    let orders = parse_orders(alloc, script.as_bytes()).map_err(|failure| failure.map(
-        |_| Misuse::Example("the script of the example cannot be read"),
-    ))?;
-    let given = orders_with_one_early(alloc, &orders)?;
-    Ok(rt.print(host_command_report(alloc, &universe_file(), SLOW_HOST, &given)?)?)
+    println!(rt; "that it takes, under a layer that refuses gaps; 11 × (2 + 1) steps:")?;
+    let request = Request::Goal(&harbour::goal());
+    print_told(
+        rt,
+        run_command_report(alloc, &universe_file(), SLOW_HOST, request, None),
+    )
 }
 
-// Runs the command that the words name.
-fn run<'a>(rt: &HostRuntime, words: &'a [String]) -> Result<(), Stop<'a>> {
+// Does what the command among the words says.
+fn execute<'a>(rt: &HostRuntime, words: &'a [String]) -> Result<(), Stop<'a>> {
     match words {
         [command] if command.as_str() == "demo" => demo(rt),
         [command, file] if command.as_str() == "universe" => show_universe(rt, file.as_str()),
@@ -361,13 +385,14 @@ fn run<'a>(rt: &HostRuntime, words: &'a [String]) -> Result<(), Stop<'a>> {
             pack(rt, orders.as_str(), file.as_str())
         }
         [command, rest @ ..] if command.as_str() == "host" => host(rt, rest),
+        [command, rest @ ..] if command.as_str() == "run" => run(rt, rest),
         _ => Err(Stop::Misused(Misuse::Usage)),
     }
 }
 
 fn main(rt: HostRuntime) -> anyhow::Result<ExitCode> {
     let words: Vec<String> = env::args(&rt)?.skip(1).collect(rt.alloc())?;
-    match run(&rt, &words) {
+    match execute(&rt, &words) {
         Ok(()) => return Ok(ExitCode::SUCCESS),
         Err(Stop::Refused(text)) => rt.print(text)?,
         Err(Stop::Misused(misuse)) => eprintln!(&rt; "{misuse}")?,
