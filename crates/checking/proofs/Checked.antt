@@ -1,5 +1,5 @@
 -- A plan exactly if nothing stands and the lines pass, and else a refusal that is right. Assumes nothing.
-use Rattle.std.proofs.Common.{◌≡◌, ℕ, Bool, true, false, List, not, Ok, Err, IsOk, is_ok, Result, sym, refl, ap, ◌∙◌, subst}
+use Rattle.std.proofs.Common.{◌≡◌, ℕ, ◌↔◌, Bool, true, false, List, not, Ok, Err, IsOk, is_ok, Result, sym, refl, ap, ◌∙◌, subst}
 use mathlib.Core.Bool.{false≢true}
 use Rattle.std.proofs.lemmas.Bool.{not-false}
 use Rattle.model.specs.Universe.{Universe}
@@ -11,7 +11,7 @@ use Rattle.checking.specs.declared.refusal.CheckRefusal.{CheckRefusal}
 use Rattle.checking.specs.declared.refusal.CheckRefusal.TheVariants.{NotEmpty}
 use Rattle.checking.specs.Judging.{and_then, length_judged, refused_if, replayed}
 use Rattle.checking.specs.Passing.{IsRight, Passes, RefusedRightly}
-use Rattle.checking.specs.Checking.{CheckedUnless, checked, empty_judged, is_empty, plan_of}
+use Rattle.checking.specs.Checking.{CheckedUnless, checked, empty_judged, is_empty, lines_checked, plan_of}
 use Rattle.checking.proofs.Emptied.{tells_empty}
 use Rattle.checking.proofs.FirstBad.{length_right, replayed_right}
 use Rattle.checking.proofs.Judged.{both_pass, judged_passes, not_refused, pass_both, passes_judged}
@@ -25,23 +25,43 @@ passes_plan : (d : Draft) (r : Result (Unit {0}) CheckRefusal) → r ≡ Ok tt �
     plan_of d r ≡ Ok (record { lines = d.lines })
 passes_plan d r e = rw e
 
-module _ (s : Situation) (d : Draft) (law : Lawful s) where
+module _ (s : Situation) (xs : List ℕ) (law : Lawful s) where
   -- what is checked and not refused: nothing stands, and the lines pass
-  checked_passes : IsOk (checked s d) → (s.config ≡ empty) × Passes s.universe d.lines.now
-  checked_passes e =
-      let a = both_pass (length_judged d.lines.now) _ (plan_passes d _ e) in
-      let b = both_pass (empty_judged s) (replayed s.universe 0 empty d.lines.now) a.1 in
+  lines_passes : lines_checked s xs ≡ Ok tt → (s.config ≡ empty) × Passes s.universe xs
+  lines_passes e =
+      let a = both_pass (length_judged xs) _ e in
+      let b = both_pass (empty_judged s) (replayed s.universe 0 empty xs) a.1 in
       let none = not-false (is_empty s) (not_refused (not (is_empty s)) NotEmpty b.0) in (
         (tells_empty s law (is_empty s) refl).0 none,
-        judged_passes s.universe d.lines.now law.valid (pass_both _ _ a.0 b.1),
+        judged_passes s.universe xs law.valid (pass_both _ _ a.0 b.1),
       )
 
-  -- where nothing stands and the lines pass, the plan has the lines of the draft
-  pub passes_checked : s.config ≡ empty → Passes s.universe d.lines.now → checked s d ≡ Ok (record { lines = d.lines })
-  passes_checked e p =
-      let a = both_pass (length_judged d.lines.now) _ (passes_judged s.universe d.lines.now law.valid p) in
+  -- where nothing stands and the lines pass, they are not refused
+  passes_lines : s.config ≡ empty → Passes s.universe xs → lines_checked s xs ≡ Ok tt
+  passes_lines e p =
+      let a = both_pass (length_judged xs) _ (passes_judged s.universe xs law.valid p) in
       let none = (tells_empty s law (is_empty s) refl).1 e in
-      passes_plan d _ (pass_both _ _ a.0 (pass_both (empty_judged s) _ (rw none) a.1))
+      pass_both _ _ a.0 (pass_both (empty_judged s) _ (rw none) a.1)
+
+module _ (s : Situation) (d : Draft) (law : Lawful s) where
+  -- the same of a draft
+  checked_passes : IsOk (checked s d) → (s.config ≡ empty) × Passes s.universe d.lines.now
+  checked_passes e = lines_passes s d.lines.now law (plan_passes d _ e)
+
+  -- whose lines the plan has
+  pub passes_checked : s.config ≡ empty → Passes s.universe d.lines.now → checked s d ≡ Ok (record { lines = d.lines })
+  passes_checked e p = passes_plan d _ (passes_lines s d.lines.now law e p)
+
+-- lines are not refused exactly if nothing stands and they pass
+pub lines_unless : (s : Situation) → Lawful s → (xs : List ℕ) → IsOk (lines_checked s xs) ↔ ((s.config ≡ empty) × Passes s.universe xs)
+lines_unless s law xs = (
+  (λ e. lines_passes s xs law (by (lines_checked s xs) e)),
+  (λ p. ap is_ok (passes_lines s xs law p.0 p.1)),
+)
+  where
+    by : (r : Result (Unit {0}) CheckRefusal) → IsOk r → r ≡ Ok tt
+    by (Ok tt) e = refl
+    by (Err x) e = absurd (false≢true e)
 
 -- a survey's check yields a plan exactly if nothing stands and the lines pass
 pub checked_unless : (s : Situation) (d : Draft) → Lawful s → (r : Result CheckedPlan CheckRefusal) → r ≡ checked s d →

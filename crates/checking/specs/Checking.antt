@@ -1,5 +1,5 @@
 -- What check answers.
-use Rattle.std.specs.Prelude.{◌≡◌, ◌↔◌, Bool, true, not, ◌&&◌, ◌==◌, Ok, Err, IsOk, Result}
+use Rattle.std.specs.Prelude.{◌≡◌, ◌↔◌, ℕ, Bool, true, not, ◌&&◌, ◌==◌, List, Ok, Err, IsOk, Result}
 use Rattle.model.specs.Config.{empty}
 use Rattle.hosts.specs.Survey.{Situation, bindings_of, instances_of}
 use Rattle.checking.specs.declared.stages.Draft.{Draft}
@@ -27,8 +27,12 @@ abbrev pub empty_judged : Situation → Result (Unit {0}) CheckRefusal
 empty_judged s = refused_if (not (is_empty s)) NotEmpty (Ok tt)
 
 -- the number of lines is tested first, then that nothing stands, and then the lines are judged in the host's universe
+abbrev pub lines_checked : Situation → List ℕ → Result (Unit {0}) CheckRefusal
+lines_checked s xs = and_then (length_judged xs) (and_then (empty_judged s) (replayed s.universe 0 empty xs))
+
+-- the same of a draft
 abbrev pub checked : Situation → Draft → Result CheckedPlan CheckRefusal
-checked s d = plan_of d (and_then (length_judged d.lines.now) (and_then (empty_judged s) (replayed s.universe 0 empty d.lines.now)))
+checked s d = plan_of d (lines_checked s d.lines.now)
 
 -- it yields a plan exactly if nothing stands in the host and the lines pass in its universe
 abbrev pub CheckedUnless : Situation → Draft → Result CheckedPlan CheckRefusal → Type 0

@@ -139,7 +139,7 @@ module _ (u : Universe) (bs : List ℕ) (ok : Valid u) where
       by false e = not_same cc
   answer_out (Err e) room is = let z = is in cc
 
-  refused_exactly : (room : ℕ) (r : Result ℕ PlanRefusal) → r ≡ plan_answer (planned u bs) room → RefusedExactly u bs r
+  pub refused_exactly : (room : ℕ) (r : Result ℕ PlanRefusal) → r ≡ plan_answer (planned u bs) room → RefusedExactly u bs r
   refused_exactly room r is = record { only = only; always = always }
     where
       only : r ≡ Err OutOfReach → IsGoal u bs × Unreached u (goal_of bs)

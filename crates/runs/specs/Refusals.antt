@@ -10,8 +10,7 @@ use Rattle.planner.specs.Goals.{goal_of}
 use Rattle.planner.specs.Planning.{IsGoal, Unreached, list_after, plan_answer, planned}
 use Rattle.checking.specs.declared.refusal.CheckRefusal.{CheckRefusal}
 use Rattle.checking.specs.declared.refusal.CheckRefusal.TheVariants.{NotEmpty}
-use Rattle.checking.specs.declared.stages.CheckedPlan.{CheckedPlan}
-use Rattle.checking.specs.Checking.{checked, is_empty}
+use Rattle.checking.specs.Checking.{is_empty, lines_checked}
 use Rattle.checking.specs.Passing.{Passes}
 use Rattle.planner.specs.Refusals.{plan_number}
 use Rattle.checking.specs.Refusals.{check_number, check_text}
@@ -44,14 +43,14 @@ goal_refusal s (Ok n) = cond (is_empty s) None (Some (Check NotEmpty))
 goal_refusal s (Err e) = Some (Plan e)
 
 -- of a script: what the check refuses; start refuses nothing behind it
-abbrev pub script_refusal : Result CheckedPlan CheckRefusal → Option RunRefusal
-script_refusal (Ok p) = None
+abbrev pub script_refusal : Result (Unit {0}) CheckRefusal → Option RunRefusal
+script_refusal (Ok x) = None
 script_refusal (Err e) = Some (Check e)
 
 -- of a request, where s is what the host's survey tells and the list has so many places
 abbrev pub run_refusal : Situation → Request → ℕ → Option RunRefusal
 run_refusal s (Goal bs) room = goal_refusal s (plan_answer (planned s.universe bs.now) room)
-run_refusal s (Script xs) room = script_refusal (checked s (record { lines = xs }))
+run_refusal s (Script xs) room = script_refusal (lines_checked s xs.now)
 
 -- the list afterwards, where it held xs: of a goal, as planning leaves it
 abbrev pub list_left : Universe → Request → List ℕ → List ℕ

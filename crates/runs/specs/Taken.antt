@@ -1,14 +1,38 @@
 -- The steps that a call takes, in the terms of its host.
-use Rattle.std.specs.Prelude.{◌≡◌, ℕ, ◌-◌, List, length, map, Some, Result}
+use Rattle.std.specs.Prelude.{◌≡◌, ℕ, ◌-◌, List, length, map, take, Some, Ok, Err, Option, Result}
 use Rattle.model.specs.declared.order.Order.{Order}
+use Rattle.model.specs.Universe.{Universe}
 use Rattle.hosts.specs.Survey.{Situation}
 use Rattle.hosts.specs.Service.{Service}
 use Rattle.hosts.specs.Answers.{Answer}
+use Rattle.planner.specs.declared.refusal.PlanRefusal.{PlanRefusal}
+use Rattle.planner.specs.Planning.{list_after, plan_answer, planned}
+use Rattle.checking.specs.Checking.{lines_checked}
 use Rattle.executor.specs.declared.fault.StepFault.{StepFault}
 use Rattle.executor.specs.Steps.{Running, TakesAll}
 use Rattle.runs.specs.declared.request.Act.{Act}
 use Rattle.runs.specs.declared.request.Ran.{Ran}
+use Rattle.runs.specs.declared.request.Request.{Request}
+use Rattle.runs.specs.declared.request.Request.TheVariants.{Goal, Script}
+use Rattle.runs.specs.declared.request.RunRefusal.{RunRefusal}
+use Rattle.runs.specs.declared.request.RunRefusal.TheVariants.{Plan}
+use Rattle.runs.specs.Refusals.{script_refusal}
 use Rattle.runs.specs.Promise.{actions_of, answers_of}
+
+-- of a goal: what planning refuses, else what the check refuses of the lines planned, which then stand in the list
+abbrev pub planned_refusal : Situation → Result ℕ PlanRefusal → List ℕ → Option RunRefusal
+planned_refusal s (Ok n) xs = script_refusal (lines_checked s (take n xs))
+planned_refusal s (Err e) xs = Some (Plan e)
+
+-- of a request, as the calls refuse it one after the other
+abbrev pub request_refusal : Situation → Request → List ℕ → Option RunRefusal
+request_refusal s (Goal bs) xs = planned_refusal s (plan_answer (planned s.universe bs.now) (length xs)) (list_after (planned s.universe bs.now) xs)
+request_refusal s (Script ys) xs = script_refusal (lines_checked s ys.now)
+
+-- of a goal, so many lines were planned
+abbrev pub IsPlanned : Universe → Request → ℕ → ℕ → Type 0
+IsPlanned u (Goal bs) room n = plan_answer (planned u bs.now) room ≡ Ok n
+IsPlanned u (Script xs) room n = Unit {0}
 
 -- a run that begins over the host
 abbrev pub beginning : {H : Type 0} → H → Running H

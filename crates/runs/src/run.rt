@@ -1,12 +1,12 @@
 // The whole run of a request on a host.
 ghost use Rattle.std.specs.Prelude.{◌≡◌, IfErr, IfOk, length};
 ghost use Rattle.hosts.specs.Answers.{meaning};
-ghost use Rattle.checking.specs.Checking.{checked};
+ghost use Rattle.checking.specs.Checking.{lines_checked};
 ghost use Rattle.executor.specs.Stages.{lines_of};
 ghost use Rattle.executor.specs.Steps.{Takes, order_at, running};
 ghost use Rattle.runs.specs.Refusals.{OutOfReachUnless, RunUnless, lines_run, list_left, refusal_of, run_refusal, script_refusal};
 ghost use Rattle.runs.specs.Promise.{Promised};
-ghost use Rattle.runs.specs.Taken.{Acted, RanOver};
+ghost use Rattle.runs.specs.Taken.{Acted, IsPlanned, RanOver, request_refusal};
 
 use crate::request::{Act, Action, Ran, Request, RunRefusal};
 use checking::check::check;
@@ -43,7 +43,7 @@ fn act_all<B: Host>(plan: &mut RunningPlan<'_>, ticket: &mut Ticket, host: &mut 
 
 // Checks the lines, starts, acts and finishes.
 fn run_lines<B: Host>(host: &mut B, lines: &[u32], acts: &mut [Act]) -> Result<Ran, RunRefusal>
-    ensures refused { refusal_of result ≡ script_refusal (checked (B.Survey.situation host.old) (record { lines = lines.entry })) }
+    ensures refused { refusal_of result ≡ script_refusal (lines_checked (B.Survey.situation host.old) lines.now) }
     ensures unchanged { IfErr result (λ _. (host.new ≡ host.old) × (acts.new ≡ acts.old)) }
     ensures ran { IfOk result (λ r. RanOver B.Survey.situation B.service B.does lines.now host.old host.new acts.old acts.new r) }
 {
@@ -56,6 +56,29 @@ fn run_lines<B: Host>(host: &mut B, lines: &[u32], acts: &mut [Act]) -> Result<R
         place,
         leases,
     })
+}
+
+// Plans a goal into the list, and runs the lines. This is the work of `run`, apart from what it means, so that it is proved
+// with no proof file.
+fn run_request<B: Host>(
+    host: &mut B,
+    request: Request<'_>,
+    list: &mut [u32],
+    acts: &mut [Act],
+) -> Result<Ran, RunRefusal>
+    ensures refused { refusal_of result ≡ request_refusal (B.Survey.situation host.old) request.entry list.old }
+    ensures list { list.new ≡ list_left (B.Survey.situation host.old).universe request.entry list.old }
+    ensures unchanged { IfErr result (λ _. (host.new ≡ host.old) × (acts.new ≡ acts.old)) }
+    ensures ran { IfOk result (λ r. RanOver B.Survey.situation B.service B.does (lines_run request.entry list.new r.lines) host.old host.new acts.old acts.new r) }
+    ensures planned { IfOk result (λ r. IsPlanned (B.Survey.situation host.old).universe request.entry (length list.old) r.lines) }
+{
+    match request {
+        Request::Goal(goal) => {
+            let lines = plan(host.universe(), goal, list)?;
+            run_lines(host, &list[..lines], acts)
+        }
+        Request::Script(lines) => run_lines(host, lines, acts),
+    }
 }
 
 // Runs the request on the host: plans a goal into the list, checks the lines, starts, takes the actions, each with its
@@ -75,11 +98,5 @@ pub fn run<B: Host>(
     ensures ran { IfOk result (λ r. RanOver B.Survey.situation B.service B.does (lines_run request.entry list.new r.lines) host.old host.new acts.old acts.new r) }
     ensures promise { IfOk result (λ r. Promised request.entry (meaning (B.Survey.situation host.old) (B.service host.old)) (meaning (B.Survey.situation host.new) (B.service host.new)) list.new acts.old acts.new r) }
 {
-    match request {
-        Request::Goal(goal) => {
-            let lines = plan(host.universe(), goal, list)?;
-            run_lines(host, &list[..lines], acts)
-        }
-        Request::Script(lines) => run_lines(host, lines, acts),
-    }
+    run_request(host, request, list, acts)
 }
