@@ -34,7 +34,7 @@ module _ (os : List Order) (m : Meaning) (start : Start os m) where
       All-cons (λ (t : Step). Intact os m t.progress × AsExpected t.answer) t ts (intact t.progress s.0, s.1) (steps_hold t.progress ts s.0 h.1)
 
   -- and where the steps lead
-  steps_reach : (a : Progress) (ts : List Step) → Kept os m a → Steps os a ts → Intact os m (reached a ts)
+  pub steps_reach : (a : Progress) (ts : List Step) → Kept os m a → Steps os a ts → Intact os m (reached a ts)
   unfolding Steps reached
   steps_reach a [] k h = intact a k
   steps_reach a (t ∷ ts) k h =

@@ -1,6 +1,7 @@
 -- The whole promise of a request that is run. Assumes nothing.
-use Rattle.std.proofs.Common.{◌≡◌, ℕ, ◌+◌, ◌<◌, ◌≤◌, ◌^◌, List, length, map, Some, Result, refl, sym, ap, ◌∙◌, arith}
+use Rattle.std.proofs.Common.{◌≡◌, ℕ, ◌+◌, ◌<◌, ◌≤◌, ◌^◌, List, length, map, take, Some, Result, refl, sym, ap, ◌∙◌, arith}
 use Rattle.std.proofs.lemmas.List.{length-map}
+use Rattle.std.proofs.lemmas.List.Elements.{All-weaker}
 use Rattle.model.specs.declared.order.Order.{Order}
 use Rattle.model.specs.Config.{empty}
 use Rattle.model.specs.Runs.{after}
@@ -9,9 +10,9 @@ use Rattle.hosts.specs.Survey.{Lawful, Situation, bindings_of}
 use Rattle.hosts.specs.Service.{Sane, Service}
 use Rattle.hosts.specs.Answers.{Answer, Meaning, meaning}
 use Rattle.checking.specs.Passing.{PassesAs}
-use Rattle.execution.specs.Steps.{Progress, begun, leases, reached}
-use Rattle.execution.specs.Laws.{Start}
-use Rattle.execution.proofs.Laws.{ends_law, steps_law}
+use Rattle.execution.specs.Steps.{Progress, Step, begun, leases, reached}
+use Rattle.execution.specs.Laws.{AsExpected, Intact, Start}
+use Rattle.execution.proofs.Laws.{ends_law, steps_law, steps_reach}
 use Rattle.execution.proofs.Standing.{kept_first}
 use Rattle.executor.specs.declared.fault.StepFault.{StepFault}
 use Rattle.executor.specs.Steps.{most}
@@ -22,7 +23,7 @@ use Rattle.runs.specs.declared.request.Ran.{Ran}
 use Rattle.runs.specs.declared.request.Request.{Request}
 use Rattle.runs.specs.declared.request.Request.TheVariants.{Goal, Script}
 use Rattle.runs.specs.Refusals.{lines_run}
-use Rattle.runs.specs.Promise.{AsPlanned, GoalMet, Promised, actions_of, answers_of}
+use Rattle.runs.specs.Promise.{AsPlanned, GoalMet, Promised, Sound, actions_of, answers_of}
 use Rattle.runs.specs.Taken.{RanOver, beginning}
 use Rattle.runs.proofs.Following.{follow}
 
@@ -32,6 +33,11 @@ pub told_size : (before acts : List Act) (told : List (Result (Unit {0}) StepFau
 told_size before acts told same are =
     sym (length-map told Some) ∙ ap length (sym are) ∙ length-map acts (λ (a : Act). a.answer)
     ∙ sym (length-map acts (λ (a : Act). a.action)) ∙ ap length same ∙ length-map before (λ (a : Act). a.action)
+
+-- what stands where a run from m has come, if nothing stood
+empty_stands : (os : List Order) (m : Meaning) (a : Progress) → m.situation.config ≡ empty → Intact os m a →
+    a.host.situation ≡ record { universe = m.situation.universe; config = after empty (take a.place os) }
+empty_stands os m a is k = k.stands ∙ ap (λ c. record { universe = m.situation.universe; config = after c (take a.place os) }) is
 
 -- a goal that the orders reach is met where they lead
 goal_met : (request : Request) (m : Meaning) (os : List Order) (a : Progress) → AsPlanned m.situation.universe request os →
@@ -57,6 +63,9 @@ module _ {H : Type 0} (s : H → Situation) (v : H → Service) (does : Order �
       let f = follow s v does lines os m start passes.runs.told none 0 (beginning h) told ran.last few
       (record { kept = kept_first os m start; made = omega arith }) ran.acted.steps in
       let end : reached (begun m) f.steps ≡ _ = f.last in
+      let host : (reached (begun m) f.steps).host ≡ meaning (s k) (v k) = ap (λ (a : Progress). a.host) end ∙ ap (λ h. meaning (s h) (v h)) ran.host in
+      let counted : leases (reached (begun m) f.steps) ≡ r.leases = ap leases end ∙ sym ran.leases in
+      let whole = steps_reach os m start (begun m) f.steps (kept_first os m start) f.run in
       record {
         orders = os;
         passes = passes;
@@ -69,11 +78,16 @@ module _ {H : Type 0} (s : H → Situation) (v : H → Service) (does : Order �
           each = f.each ∙ size;
           actions = ran.acted.actions;
           answers = ran.acted.answers ∙ ap (map Some) f.answers;
-          host = ap (λ (a : Progress). a.host) end ∙ ap (λ h. meaning (s h) (v h)) ran.host;
+          host = host;
           place = ap (λ (a : Progress). a.place) end ∙ sym ran.place;
-          leases = ap leases end ∙ sym ran.leases;
+          leases = counted;
         };
-        every = λ ts steps. steps_law os m ts start steps;
+        gap_free = rw host at whole.gap_free;
+        leases = sym counted ∙ whole.leases none ∙ ap (λ (n : Meaning). bindings_of n.situation) host;
+        every = λ ts steps.
+            All-weaker (λ (t : Step). Intact os m t.progress × AsExpected t.answer) (Sound os m)
+            (λ t k. record { gap_free = k.0.gap_free; answer = k.1; leases = k.0.leases none; stands = empty_stands os m t.progress is k.0 })
+            ts (steps_law os m ts start steps);
         ends = λ ts steps covers many.
             let e = ends_law os m ts start steps covers many in
             let stands = e.1 ∙ ap (λ c. record { universe = (s h).universe; config = after c os }) is in

@@ -1,16 +1,18 @@
 -- What is promised of a request that is run.
-use Rattle.std.specs.Prelude.{◌≡◌, ℕ, ◌+◌, ◌*◌, ◌≤◌, List, [], ◌∷◌, All, length, map, Some, None, Ok, Err, Option, Result, slice_get}
+use Rattle.std.specs.Prelude.{◌≡◌, ℕ, ◌+◌, ◌*◌, ◌≤◌, List, [], ◌∷◌, All, length, map, take, Some, None, Ok, Err, Option, Result, slice_get}
 use Rattle.model.specs.declared.order.Order.{Order}
 use Rattle.model.specs.Universe.{Universe}
 use Rattle.model.specs.Config.{Config, empty}
+use Rattle.model.specs.Gaps.{GapFree}
 use Rattle.model.specs.Runs.{after}
+use Rattle.hosts.specs.Survey.{bindings_of}
 use Rattle.hosts.specs.Answers.{Answer, Meaning}
 use Rattle.plans.specs.Goals.{Met, Reaches}
 use Rattle.planner.specs.Goals.{goal_of}
 use Rattle.planner.specs.Planning.{planned}
 use Rattle.checking.specs.Passing.{PassesAs}
 use Rattle.execution.specs.Steps.{Progress, Step, Steps, begun, leases, reached}
-use Rattle.execution.specs.Laws.{AsExpected, CoversAll, Intact}
+use Rattle.execution.specs.Laws.{AsExpected, CoversAll}
 use Rattle.executor.specs.declared.fault.StepFault.{StepFault}
 use Rattle.executor.specs.declared.fault.StepFault.TheVariants.{NoLine}
 use Rattle.executor.specs.Steps.{answer_at}
@@ -69,6 +71,14 @@ pub record Ended (request : Request) (os : List Order) (m : Meaning) (a : Progre
   pub stands : a.host.situation ≡ record { universe = m.situation.universe; config = after empty os }
   pub met : GoalMet request a.host.situation.config
 
+-- what holds after a step of a run from m, where nothing stood: nothing has a gap; the host's answer, if there was one, was
+-- done, busy or full; the leases are the bindings that stand; and what stands is what the lines before the place lead to
+pub record Sound (os : List Order) (m : Meaning) (t : Step) : Type 0 where
+  pub gap_free : GapFree t.progress.host.situation.universe t.progress.host.situation.config
+  pub answer : AsExpected t.answer
+  pub leases : leases t.progress ≡ bindings_of t.progress.host.situation
+  pub stands : t.progress.host.situation ≡ record { universe = m.situation.universe; config = after empty (take t.progress.place os) }
+
 -- what is promised of a request that is run, where the host meant m at the entry and means n at the exit, the caller's list
 -- is xs afterwards, and the actions were `before`
 pub record Promised (request : Request) (m n : Meaning) (xs : List ℕ) (before after : List Act) (r : Ran) : Type 0 where
@@ -81,9 +91,11 @@ pub record Promised (request : Request) (m n : Meaning) (xs : List ℕ) (before 
   pub empty : m.situation.config ≡ empty
   -- what the call itself did is a run of them
   pub own : OwnRun orders m n before after r
-  -- after every step of every run of them, whatever the steps: nothing has a gap, the host answered done, busy or full, and
-  -- the leases are the bindings that stand
-  pub every : (ts : List Step) → Steps orders (begun m) ts → All (λ t. Intact orders m t.progress × AsExpected t.answer) ts
+  -- where it is finished, nothing has a gap, and the leases that are answered are the bindings that stand
+  pub gap_free : GapFree n.situation.universe n.situation.config
+  pub leases : r.leases ≡ bindings_of n.situation
+  -- and so after every step of every run of them, whatever the steps
+  pub every : (ts : List Step) → Steps orders (begun m) ts → All (Sound orders m) ts
   -- where the allowances cover them, every run of lines × (longest wait + 1) steps or more comes to its end
   pub ends : (ts : List Step) → Steps orders (begun m) ts → CoversAll orders m.service.load →
       length orders * (m.service.profile.longest + 1) ≤ length ts → Ended request orders m (reached (begun m) ts)
