@@ -56,24 +56,28 @@ pub record Running (H : Type 0) : Type 0 where
   pub made : ℕ
   pub ended : ℕ
 
+-- at its beginning a run is at place 0, and has neither made nor ended a binding
+abbrev pub beginning : {H : Type 0} → H → Running H
+beginning h = record { host = h; place = 0; made = 0; ended = 0 }
+
+-- how far a run has come, in the words of runs; s and v tell what a host means
+abbrev pub progress_of : {H : Type 0} → (H → Situation) → (H → Service) → Running H → Progress
+progress_of s v a = record { host = meaning (s a.host) (v a.host); place = a.place; made = a.made; ended = a.ended }
+
 -- of a running plan, a ticket and a host
 abbrev pub running : {H : Type 0} → H → RunningPlan → Ticket → Running H
 running h p t = record { host = h; place = p.place; made = t.made; ended = t.ended }
 
 -- s and v tell what a host means, and `does` just what it does
 module _ {H : Type 0} (s : H → Situation) (v : H → Service) (does : Order → H → H → Answer → Type 0) where
-  -- how far the run has come, in the words of runs
-  abbrev pub progress_of : Running H → Progress
-  progress_of a = record { host = meaning (s a.host) (v a.host); place = a.place; made = a.made; ended = a.ended }
-
   -- the host is given the order, and nothing else: it answers as the relation of hosts and its `does` say; the place and
   -- the numbers on the ticket are then those to which the answer leads; and the step answers what the host did
   pub record Given (o : Order) (a : Running H) (r : Result (Unit {0}) StepFault) (b : Running H) : Type 0 where
     pub answer : Answer
     pub exact : does o a.host b.host answer
     pub next : Progress
-    pub ordered : Ordered o (progress_of a) answer next
-    pub after : progress_of b ≡ on_ticket next
+    pub ordered : Ordered o (progress_of s v a) answer next
+    pub after : progress_of s v b ≡ on_ticket next
     pub told : r ≡ answer_at a.place o answer
 
   -- a step: the host is given the order of the line at the place; where no line is left, it is given none, nothing changes,

@@ -15,13 +15,20 @@ use hosts::survey::Survey;
 use lines::decode;
 use model::order::Order;
 
+// The order of the line at the place; none where no line is left, or it tells none.
+pub fn order_at(lines: &[u32], place: usize) -> Option<Order>
+    ensures { result ≡ order_at lines.now place }
+{
+    decode(*lines.get(place)?).ok()
+}
+
 impl RunningPlan<'_> {
     // The order of the line at the place; none where no line is left.
     fn next_order(&self) -> Option<Order>
         ensures value { result ≡ order_at (lines_of self.now) self.now.place }
         ensures within { IfSome result (λ _. self.now.place < 2 ^ 63) }
     {
-        decode(*self.lines().get(self.place)?).ok()
+        order_at(self.lines(), self.place)
     }
 }
 

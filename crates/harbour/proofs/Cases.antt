@@ -1,4 +1,4 @@
--- The worked cases hold by computation.
+-- The worked cases of lines and plans hold by computation.
 use Rattle.std.proofs.Common.{refl}
 use Rattle.model.specs.Search.{any, find_first, sum_below}
 use Rattle.plans.specs.Lists.{lists_below}

@@ -1,7 +1,10 @@
 -- The harbour universe: a lock service, a roster that needs the lock, and a dispatcher that needs first the
 -- lock and then the roster.
 use Rattle.std.specs.Prelude.{ℕ, suc, Bool, cond, ◌&&◌, ◌||◌, List, [], ◌∷◌, replicate, ◌==◌, nat_lt}
+use Rattle.model.specs.declared.order.Order.{Order}
+use Rattle.model.specs.declared.order.Order.TheVariants.{Create, Bind, Change, Unbind}
 use Rattle.model.specs.Universe.{Universe}
+use Rattle.plans.specs.Plan.{binding}
 use Rattle.universe.specs.declared.tables.State.{State}
 use Rattle.universe.specs.declared.tables.Tables.{Tables}
 use Rattle.universe.specs.Tables.{blank_state, unused_kind}
@@ -31,7 +34,16 @@ harbour = record {
 abbrev pub harbour_goal : List ℕ
 harbour_goal = 0x24 ∷ []
 
--- its file
+-- the orders of its script: lock, roster and dispatcher are built one after the other, and the dispatcher lets the lock go
+-- once it serves
+abbrev pub serving_orders : List Order
+serving_orders =
+    Create 0 0 ∷ Change 0 1
+    ∷ Create 1 1 ∷ Bind (binding 0 0 1) ∷ Change 1 1
+    ∷ Create 2 2 ∷ Bind (binding 0 0 2) ∷ Change 2 1 ∷ Bind (binding 1 1 2) ∷ Change 2 2 ∷ Unbind (binding 0 0 2)
+    ∷ []
+
+-- the file of the harbour
 abbrev pub harbour_file : List ℕ
 harbour_file =
     0x18 ∷ 0x40

@@ -1,30 +1,20 @@
 -- Worked cases of steps of the harbour's script on a cloud.
 use Rattle.std.specs.Prelude.{◌≡◌, ℕ, ◌-◌, List, [], ◌∷◌, length, map, Some, Ok, Err, Result, slice_get}
-use Rattle.model.specs.declared.order.Order.{Order}
-use Rattle.model.specs.declared.order.Order.TheVariants.{Create, Bind, Change, Unbind}
+use Rattle.model.specs.declared.order.Order.TheVariants.{Create}
 use Rattle.model.specs.Config.{empty, pair}
 use Rattle.lines.specs.Line.{decoded}
 use Rattle.hosts.specs.declared.refusal.Reason.{Reason}
 use Rattle.hosts.specs.declared.refusal.Reason.TheVariants.{Busy, Full}
-use Rattle.plans.specs.Plan.{binding}
 use Rattle.checking.specs.Judging.{judged, situation}
 use Rattle.cloud.specs.declared.state.Cloud.{Cloud}
 use Rattle.cloud.specs.Cloud.{CloudState, CloudTakes, cloud_of, cloud_service, cloud_situation}
 use Rattle.executor.specs.declared.fault.StepFault.{StepFault}
 use Rattle.executor.specs.declared.fault.StepFault.TheVariants.{Refused}
 use Rattle.executor.specs.Refusals.{fault_number}
-use Rattle.executor.specs.Steps.{Running, TakesAll}
-use Rattle.harbour.specs.Harbour.{harbour}
+use Rattle.executor.specs.Steps.{Running, TakesAll, beginning}
+use Rattle.harbour.specs.Harbour.{harbour, serving_orders}
 
--- the orders for a dispatcher that serves
-abbrev pub serving_orders : List Order
-serving_orders =
-    Create 0 0 ∷ Change 0 1
-    ∷ Create 1 1 ∷ Bind (binding 0 0 1) ∷ Change 1 1
-    ∷ Create 2 2 ∷ Bind (binding 0 0 2) ∷ Change 2 1 ∷ Bind (binding 1 1 2) ∷ Change 2 2 ∷ Unbind (binding 0 0 2)
-    ∷ []
-
--- and their lines
+-- the lines of the orders for a dispatcher that serves
 abbrev pub serving_lines : List ℕ
 serving_lines =
     0x20000000 ∷ 0x60000002
@@ -47,7 +37,7 @@ dispatcher_fault e = Refused 5 (Create 2 2) (record { reason = e; height = 0 })
 -- from a run's start on the cloud c, steps over the lines answer what is told, and lead to b
 abbrev pub Served : Cloud → List (Result (Unit {0}) StepFault) → Running Cloud → Type 0
 Served c told b =
-    TakesAll cloud_situation cloud_service CloudTakes serving_lines (record { host = c; place = 0; made = 0; ended = 0 }) told b
+    TakesAll cloud_situation cloud_service CloudTakes serving_lines (beginning c) told b
 
 pub record RunCases : Type 0 where
   -- the lines tell the orders, and are judged good

@@ -27,10 +27,14 @@ abbrev pub yes_no_of : Bool → List ℕ
 yes_no_of true = codes "yes"
 yes_no_of false = codes "no"
 
--- the last line: how much stands, and whether it is gap-free
+-- how much stands, and whether it is gap-free
+abbrev pub stands_text_of : ℕ → ℕ → Bool → List ℕ
+stands_text_of instances bindings gap_free =
+    codes "instances " ++ (decimal instances ++ (codes ", bindings " ++ (decimal bindings ++ (codes ", gap-free " ++ yes_no_of gap_free))))
+
+-- the last line: what stands
 abbrev pub end_line_of : ℕ → ℕ → Bool → List ℕ
-end_line_of instances bindings gap_free =
-    codes "instances " ++ (decimal instances ++ (codes ", bindings " ++ (decimal bindings ++ (codes ", gap-free " ++ (yes_no_of gap_free ++ newline)))))
+end_line_of instances bindings gap_free = stands_text_of instances bindings gap_free ++ newline
 
 -- the same for what a survey tells
 abbrev pub survey_line : Situation → List ℕ

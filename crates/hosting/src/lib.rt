@@ -2,7 +2,7 @@
 #![tactic(auto)]
 
 ghost use Rattle.std.specs.Prelude.{◌≡◌, IfOk, string_bytes};
-ghost use Rattle.hosting.specs.Hosting.{Reported, Told, answer_text_of, end_line_of, order_line_of, survey_line};
+ghost use Rattle.hosting.specs.Hosting.{Reported, Told, answer_text_of, end_line_of, order_line_of, stands_text_of, survey_line};
 
 use hosts::host::{Host, give};
 use hosts::load::Load;
@@ -47,7 +47,20 @@ pub fn order_report<B: Host>(
     order_line(alloc, order, answer, host.load())
 }
 
-// The last line: how much stands, and whether it is gap-free.
+// What stands: how much, and whether it is gap-free.
+pub fn stands_text(
+    alloc: Global,
+    instances: u32,
+    bindings: u32,
+    gap_free: bool,
+) -> Result<String, AllocError>
+    ensures { IfOk result (λ s. string_bytes s ≡ stands_text_of instances bindings gap_free) }
+{
+    let gap_free = if gap_free { "yes" } else { "no" };
+    format!(in alloc; "instances {instances}, bindings {bindings}, gap-free {gap_free}")
+}
+
+// The last line: what stands.
 pub fn end_line(
     alloc: Global,
     instances: u32,
@@ -56,8 +69,8 @@ pub fn end_line(
 ) -> Result<String, AllocError>
     ensures { IfOk result (λ s. string_bytes s ≡ end_line_of instances bindings gap_free) }
 {
-    let gap_free = if gap_free { "yes" } else { "no" };
-    format!(in alloc; "instances {instances}, bindings {bindings}, gap-free {gap_free}\n")
+    let stands = stands_text(alloc, instances, bindings, gap_free)?;
+    format!(in alloc; "{stands}\n")
 }
 
 // The last line for what a survey tells.

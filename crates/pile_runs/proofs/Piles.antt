@@ -22,7 +22,8 @@ use Rattle.options.specs.declared.HostOptions.{HostOptions}
 use Rattle.options.specs.declared.Layers.{Layers}
 use Rattle.options.specs.declared.Layers.TheVariants.{None as NoLayer, Verifying, VerifyingTwice}
 use Rattle.piles.specs.Piles.{Pile, cloud_alone, fresh, fresh_cloud_of, pile_of, verifying}
-use Rattle.pile_runs.specs.Piles.{PileProgress, next_progress, pile_begun, pile_step, pile_steps, progress_of}
+use Rattle.executor.specs.Steps.{Running, beginning}
+use Rattle.pile_runs.specs.Piles.{next_progress, pile_progress, pile_step, pile_steps}
 use Rattle.pile_runs.specs.Laws.{PileCoversLaw, PileEndsLaw, PileRunsLaw, PileStartLaw}
 use Rattle.passing.proofs.Starting.{start_law}
 
@@ -84,16 +85,16 @@ module _ (p : Pile) (h : IsHost p) where
   }
 
   -- a step of a pile is a step of a run, and leads from what is good to what is good
-  stepped : (o : Option Order) (a : PileProgress) → Good a.cloud →
-      Stepped o (progress_of p a) (pile_step p o a).answer (pile_step p o a).progress × Good (next_progress p o a).cloud ×
-      ((pile_step p o a).progress ≡ progress_of p (next_progress p o a))
+  stepped : (o : Option Order) (a : Running CloudState) → Good a.host →
+      Stepped o (pile_progress p a) (pile_step p o a).answer (pile_step p o a).progress × Good (next_progress p o a).host ×
+      ((pile_step p o a).progress ≡ pile_progress p (next_progress p o a))
   stepped (Some o) a g =
-      (record { host = h.answered o a.cloud g; place = refl; made = refl; ended = refl }, h.good o a.cloud g, refl)
+      (record { host = h.answered o a.host g; place = refl; made = refl; ended = refl }, h.good o a.host g, refl)
   stepped None a g = (refl, g, refl)
 
   -- so its steps are those of a run
-  steps : (os : List Order) (n : ℕ) (a : PileProgress) → Good a.cloud →
-      Steps os (progress_of p a) (pile_steps p (slice_get os) a n) × (length (pile_steps p (slice_get os) a n) ≡ n)
+  steps : (os : List Order) (n : ℕ) (a : Running CloudState) → Good a.host →
+      Steps os (pile_progress p a) (pile_steps p (slice_get os) a n) × (length (pile_steps p (slice_get os) a n) ≡ n)
   unfolding Steps pile_steps
   steps os zero a g = (tt, refl)
   steps os (suc n) a g =
@@ -125,7 +126,7 @@ pile_start_law u o xs os ok passes =
 -- and its steps are those of a run from there
 pub pile_runs_law : PileRunsLaw
 pile_runs_law u o os n ok =
-    let k = fresh_cloud_of u o in steps (pile_of o.layers) (pile_host o.layers) os n (pile_begun k) (fresh_good u o ok)
+    let k = fresh_cloud_of u o in steps (pile_of o.layers) (pile_host o.layers) os n (beginning k) (fresh_good u o ok)
 
 -- a fresh cloud allows as much as its limits
 fresh_load : (u : Universe) (o : HostOptions) →

@@ -29,7 +29,7 @@ use Rattle.execution.specs.Steps.{Progress}
 use Rattle.execution.specs.Laws.{Start}
 use Rattle.execution.proofs.Standing.{kept_first}
 use Rattle.executor.specs.declared.fault.StepFault.{StepFault}
-use Rattle.executor.specs.Steps.{Running, most, order_at}
+use Rattle.executor.specs.Steps.{Running, beginning, most, order_at}
 use Rattle.passing.proofs.Planned.{told_length}
 use Rattle.passing.proofs.Starting.{start_law}
 use Rattle.options.specs.declared.HostOptions.{HostOptions}
@@ -40,11 +40,10 @@ use Rattle.runs.specs.declared.request.Request.{Request}
 use Rattle.runs.specs.declared.request.Request.TheVariants.{Goal, Script}
 use Rattle.runs.specs.Promise.{AsPlanned, answers_of, step_answers}
 use Rattle.runs.specs.Refusals.{lines_run, run_refusal}
-use Rattle.runs.specs.Taken.{beginning}
 use Rattle.runs.proofs.Following.{told_at}
 use Rattle.runs.proofs.Promising.{told_size}
 use Rattle.run_text.specs.Reports.{RefusedWith, Reported, run_text}
-use Rattle.pile_runs.specs.Piles.{pile_begun, pile_steps, progress_of as pile_progress}
+use Rattle.pile_runs.specs.Piles.{pile_progress, pile_steps}
 use Rattle.pile_runs.specs.Runs.{StepsReported, command_text, line_count, most_lines, pile_reached, pile_run_text, planned_count, ran_at, request_order, steps_for, steps_text, unless_refused}
 use Rattle.pile_runs.proofs.Piles.{Good, IsHost, fresh_good, pile_host}
 use Rattle.pile_runs.proofs.Running.{follow_pile}
@@ -65,7 +64,7 @@ module _ {H : Type 0} (s : H → Situation) (v : H → Service) (does : Order �
     (request : Request) (h k : H) (lawful : Lawful (s h)) (sane : Sane (v h)) (list left : List ℕ) (before after : List Act) where
   -- a run that is reported is what the pile does
   run_told : (text : List ℕ) → length before < 2 ^ 63 → Reported s v does request h k list left before after text →
-      text ≡ steps_text p (request_order (s h).universe request) (pile_begun (held h)) (length before) request (line_count (s h).universe request)
+      text ≡ steps_text p (request_order (s h).universe request) (beginning (held h)) (length before) request (line_count (s h).universe request)
   run_told text short r =
       let u = (s h).universe in
       let lines = lines_run request left r.ran.lines in
@@ -78,7 +77,7 @@ module _ {H : Type 0} (s : H → Situation) (v : H → Service) (does : Order �
       let told = r.over.acted.told in
       let size : length told ≡ length before = told_size before after told r.over.acted.actions r.over.acted.answers in
       let few : 0 + length told ≤ most = omega (arith, size, short) in
-      let first = pile_begun (held h) in
+      let first = beginning (held h) in
       let orders = request_order u request in
       let f = follow_pile s v does held p is lines os m start passes.runs.told none orders same 0 (beginning h) first told r.over.last few
       (record {
@@ -91,7 +90,7 @@ module _ {H : Type 0} (s : H → Situation) (v : H → Service) (does : Order �
       let these : List (Option (Result (Unit {0}) StepFault)) = map Some (step_answers orders (pile_progress p first) (pile_steps p orders first (length before))) in
       let answers : answers_of after ≡ map Some (step_answers orders (pile_progress p first) (pile_steps p orders first (length before))) =
       r.over.acted.answers ∙ ap (map Some) (f.0 ∙ ap (λ n. step_answers orders (pile_progress p first) (pile_steps p orders first n)) size) in
-      let stands : s k ≡ (p.means last.cloud).situation = ap s (sym r.over.host) ∙ ap (λ (a : Progress). a.host.situation) end in
+      let stands : s k ≡ (p.means last.host).situation = ap s (sym r.over.host) ∙ ap (λ (a : Progress). a.host.situation) end in
       let count : r.ran.lines ≡ line_count u request = r.over.lines ∙ count_same u request left r.ran.lines os r.promise.planned passes.runs.told in
       let place : r.ran.place ≡ last.place = r.over.place ∙ ap (λ (a : Progress). a.place) end in
       let leases : r.ran.leases ≡ last.made - last.ended = r.over.leases ∙ ap (λ (a : Progress). a.made - a.ended) end in
@@ -100,7 +99,7 @@ module _ {H : Type 0} (s : H → Situation) (v : H → Service) (does : Order �
       ∙ ap (λ f. run_text f (answers_of after) request (s k) r.ran) (fun_ext same)
       ∙ ap (λ rs. run_text orders rs request (s k) r.ran) answers
       ∙ ap (λ t. run_text orders these request t r.ran) stands
-      ∙ ap (run_text orders these request (p.means last.cloud).situation) ran
+      ∙ ap (run_text orders these request (p.means last.host).situation) ran
     where
       progress_at : Running H → Progress
       progress_at a = record { host = meaning (s a.host) (v a.host); place = a.place; made = a.made; ended = a.ended }
@@ -141,14 +140,14 @@ module _ {H : Type 0} (s : H → Situation) (v : H → Service) (does : Order �
       same = ap (λ t. run_refusal t request most_lines) stands
 
       whole : List ℕ
-      whole = steps_text (pile_of o.layers) (request_order u request) (pile_begun (fresh_cloud_of u o)) n request (line_count u request)
+      whole = steps_text (pile_of o.layers) (request_order u request) (beginning (fresh_cloud_of u o)) n request (line_count u request)
 
       by : (r : Result (String Global) (Failure (String Global))) →
           IfTold r (λ t. StepsReported s v does request h k n (string_bytes t)) (λ t. RefusedWith (s h) request most_lines (string_bytes t)) →
           Told string_bytes string_bytes r (pile_run_text u o request n)
       by (Ok text) t =
           let short : length t.before < 2 ^ 63 = omega (arith, t.each, t.short) in
-          let steps : steps_text p (request_order (s h).universe request) (pile_begun (held h)) (length t.before) request (line_count (s h).universe request) ≡ whole =
+          let steps : steps_text p (request_order (s h).universe request) (beginning (held h)) (length t.before) request (line_count (s h).universe request) ≡ whole =
           rw (universe, pile, opened, t.each) refl in
           let none : run_refusal (s h) request most_lines ≡ None = rw t.room at t.reported.allowed in
           ap Ok (run_told s v does held p is request h k lawful sane t.list t.left t.before t.after (string_bytes text) short t.reported ∙ steps)

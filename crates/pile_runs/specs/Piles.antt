@@ -4,43 +4,33 @@ use Rattle.model.specs.declared.order.Order.{Order}
 use Rattle.hosts.specs.Answers.{is_bind, is_done}
 use Rattle.cloud.specs.Cloud.{CloudState}
 use Rattle.execution.specs.Steps.{Progress, Step, ended_between}
+use Rattle.executor.specs.Steps.{Running, progress_of}
 use Rattle.piles.specs.Piles.{Outcome, Pile}
 
--- how far a run on a pile has come: what the cloud at the bottom holds, the place, and the bindings made and ended
-pub record PileProgress : Type 0 where
-  pub cloud : CloudState
-  pub place : ℕ
-  pub made : ℕ
-  pub ended : ℕ
-
--- how far it has come in the words of runs, by what the pile means
-abbrev pub progress_of : Pile → PileProgress → Progress
-progress_of p a = record { host = p.means a.cloud; place = a.place; made = a.made; ended = a.ended }
-
--- at its start
-abbrev pub pile_begun : CloudState → PileProgress
-pile_begun k = record { cloud = k; place = 0; made = 0; ended = 0 }
+-- how far a run on a pile has come, in the words of runs, by what the pile means
+abbrev pub pile_progress : Pile → Running CloudState → Progress
+pile_progress p a = progress_of (λ k. (p.means k).situation) (λ k. (p.means k).service) a
 
 -- after the pile's answer to an order
-abbrev pub after_outcome : Pile → Order → PileProgress → Outcome → PileProgress
+abbrev pub after_outcome : Pile → Order → Running CloudState → Outcome → Running CloudState
 after_outcome p o a out = record {
-  cloud = out.after;
+  host = out.after;
   place = a.place + cond (is_done out.answer) 1 0;
   made = a.made + cond (is_done out.answer && is_bind o) 1 0;
-  ended = a.ended + ended_between (p.means a.cloud).situation.config (p.means out.after).situation.config;
+  ended = a.ended + ended_between (p.means a.host).situation.config (p.means out.after).situation.config;
 }
 
 -- after a step: the line at the place is ordered, if one is left
-abbrev pub next_progress : Pile → Option Order → PileProgress → PileProgress
-next_progress p (Some o) a = after_outcome p o a (p.does o a.cloud)
+abbrev pub next_progress : Pile → Option Order → Running CloudState → Running CloudState
+next_progress p (Some o) a = after_outcome p o a (p.does o a.host)
 next_progress p None a = a
 
 -- the step from there
-abbrev pub pile_step : Pile → Option Order → PileProgress → Step
-pile_step p (Some o) a = record { answer = Some (p.does o a.cloud).answer; progress = progress_of p (next_progress p (Some o) a) }
-pile_step p None a = record { answer = None; progress = progress_of p a }
+abbrev pub pile_step : Pile → Option Order → Running CloudState → Step
+pile_step p (Some o) a = record { answer = Some (p.does o a.host).answer; progress = pile_progress p (next_progress p (Some o) a) }
+pile_step p None a = record { answer = None; progress = pile_progress p a }
 
 -- so many steps, where these orders are at the places
-unfoldable pub pile_steps : Pile → (ℕ → Option Order) → PileProgress → ℕ → List Step
+unfoldable pub pile_steps : Pile → (ℕ → Option Order) → Running CloudState → ℕ → List Step
 pile_steps p orders a zero = []
 pile_steps p orders a (suc n) = pile_step p (orders a.place) a ∷ pile_steps p orders (next_progress p (orders a.place) a) n

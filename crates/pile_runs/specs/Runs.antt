@@ -12,7 +12,8 @@ use Rattle.hosts.specs.Service.{Service}
 use Rattle.hosts.specs.Answers.{Answer}
 use Rattle.planner.specs.declared.refusal.PlanRefusal.{PlanRefusal}
 use Rattle.planner.specs.Planning.{planned}
-use Rattle.executor.specs.Steps.{order_at}
+use Rattle.cloud.specs.Cloud.{CloudState}
+use Rattle.executor.specs.Steps.{Running, beginning, order_at}
 use Rattle.runs.specs.declared.request.Act.{Act}
 use Rattle.runs.specs.declared.request.Ran.{Ran}
 use Rattle.runs.specs.declared.request.Request.{Request}
@@ -23,7 +24,7 @@ use Rattle.runs.specs.Refusals.{run_refusal}
 use Rattle.run_text.specs.Reports.{Reported, refused_text, run_text}
 use Rattle.options.specs.declared.HostOptions.{HostOptions}
 use Rattle.piles.specs.Piles.{Pile, fresh, fresh_cloud_of, pile_of}
-use Rattle.pile_runs.specs.Piles.{PileProgress, next_progress, pile_begun, pile_steps, progress_of}
+use Rattle.pile_runs.specs.Piles.{next_progress, pile_progress, pile_steps}
 
 -- the order at a place of a planned script
 abbrev pub planned_at : Result (List Order) PlanRefusal → ℕ → Option Order
@@ -46,20 +47,20 @@ line_count u (Goal bs) = planned_count (planned u bs.now)
 line_count u (Script xs) = length xs.now
 
 -- where so many steps lead
-unfoldable pub pile_reached : Pile → (ℕ → Option Order) → PileProgress → ℕ → PileProgress
+unfoldable pub pile_reached : Pile → (ℕ → Option Order) → Running CloudState → ℕ → Running CloudState
 pile_reached p orders a zero = a
 pile_reached p orders a (suc n) = pile_reached p orders (next_progress p (orders a.place) a) n
 
 -- what a finished run answers
-abbrev pub ran_at : ℕ → PileProgress → Ran
+abbrev pub ran_at : ℕ → Running CloudState → Ran
 ran_at lines a = record { lines = lines; place = a.place; leases = a.made - a.ended }
 
 -- the lines of so many steps from there, where these orders are at the places and the request has so many lines, and the
 -- last line
-abbrev pub steps_text : Pile → (ℕ → Option Order) → PileProgress → ℕ → Request → ℕ → List ℕ
+abbrev pub steps_text : Pile → (ℕ → Option Order) → Running CloudState → ℕ → Request → ℕ → List ℕ
 steps_text p orders a n request lines =
     let last = pile_reached p orders a n in
-    run_text orders (map Some (step_answers orders (progress_of p a) (pile_steps p orders a n))) request (p.means last.cloud).situation (ran_at lines last)
+    run_text orders (map Some (step_answers orders (pile_progress p a) (pile_steps p orders a n))) request (p.means last.host).situation (ran_at lines last)
 
 -- no script is longer, so the list has so many places
 abbrev pub most_lines : ℕ
@@ -87,7 +88,7 @@ unless_refused (Some e) text = Err (refused_text e)
 abbrev pub pile_run_text : Universe → HostOptions → Request → ℕ → Result (List ℕ) (List ℕ)
 pile_run_text u o request n =
     unless_refused (run_refusal (fresh u o).situation request most_lines)
-    (steps_text (pile_of o.layers) (request_order u request) (pile_begun (fresh_cloud_of u o)) n request (line_count u request))
+    (steps_text (pile_of o.layers) (request_order u request) (beginning (fresh_cloud_of u o)) n request (line_count u request))
 
 -- as many steps as bring every script to its end which the allowances cover: its lines × (longest wait + 1); more than
 -- 32,768 lines are refused

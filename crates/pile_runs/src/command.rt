@@ -31,12 +31,18 @@ fn line_count(alloc: Global, universe: &Universe, request: Request<'_>) -> Resul
     }
 }
 
+// The check lets no more lines pass.
+const MOST_CHECKED: usize = 32768;
+
+// No cloud puts more orders off.
+const LONGEST_DELAY: u32 = 8;
+
 // As many steps as bring every script to its end which the host's allowances cover: its lines × (longest wait + 1). More
 // than 32,768 lines are refused.
 fn usual_steps(lines: usize, options: HostOptions) -> usize
     ensures { result ≡ usual_steps lines options }
 {
-    lines.min(32768) * (options.delay.min(8) as usize + 1)
+    lines.min(MOST_CHECKED) * (options.delay.min(LONGEST_DELAY) as usize + 1)
 }
 
 // Runs the request on the host, so many steps, with a list that has room for every script; and makes the lines that tell of

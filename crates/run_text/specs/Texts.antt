@@ -4,7 +4,7 @@ use Rattle.model.specs.declared.order.Order.{Order}
 use Rattle.model.specs.Written.{written}
 use Rattle.hosts.specs.Refusals.{refusal_text}
 use Rattle.hosts.specs.Survey.{Situation, bindings_of, has_gap, instances_of}
-use Rattle.hosting.specs.Hosting.{yes_no_of}
+use Rattle.hosting.specs.Hosting.{stands_text_of}
 use Rattle.executor.specs.declared.fault.StepFault.{StepFault}
 use Rattle.executor.specs.declared.fault.StepFault.TheVariants.{NoLine, Refused}
 use Rattle.executor.specs.Refusals.{fault_number}
@@ -49,15 +49,10 @@ met_text (Some false) = codes ", goal not met"
 abbrev pub finish_text : Ran → List ℕ
 finish_text r = codes "place " ++ (decimal r.place ++ (codes " of " ++ (decimal r.lines ++ (codes ", leases " ++ decimal r.leases))))
 
--- how much stands, and whether it is gap-free
-abbrev pub stands_text : ℕ → ℕ → Bool → List ℕ
-stands_text instances bindings gap_free =
-    codes "instances " ++ (decimal instances ++ (codes ", bindings " ++ (decimal bindings ++ (codes ", gap-free " ++ yes_no_of gap_free))))
-
 -- the last line
 abbrev pub end_line_of : Ran → ℕ → ℕ → Bool → Option Bool → List ℕ
 end_line_of r instances bindings gap_free met =
-    finish_text r ++ (codes ", " ++ (stands_text instances bindings gap_free ++ (met_text met ++ codes "\n")))
+    finish_text r ++ (codes ", " ++ (stands_text_of instances bindings gap_free ++ (met_text met ++ codes "\n")))
 
 -- the same for what a survey tells
 abbrev pub survey_line : Situation → Ran → Option Bool → List ℕ

@@ -1,4 +1,4 @@
-// What the command `run` prints of a run, made from values.
+// Running a request, and what the command `run` prints of it.
 #![tactic(auto)]
 
 pub mod report;

@@ -1,8 +1,10 @@
 // Running a request, and what is printed of it.
 ghost use Rattle.std.specs.Prelude.{◌≡◌, IfOk, length, string_bytes};
+ghost use Rattle.std.specs.Bool.{⊤};
 ghost use Rattle.console.specs.Told.{IfTold};
 ghost use Rattle.executor.specs.Steps.{order_at};
 ghost use Rattle.runs.specs.Promise.{answers_of};
+ghost use Rattle.runs.specs.Refusals.{list_left};
 ghost use Rattle.run_text.specs.Reports.{Reported, RefusedWith, met_of, refused_text, run_text};
 
 use crate::texts::{answer_lines, end_report};
@@ -48,7 +50,8 @@ fn run_text<S: Survey>(
     Ok(text)
 }
 
-// Runs the request on the host, and makes the lines that tell of it; or the line of its refusal.
+// Runs the request on the host, and makes the lines that tell of it; or the line of its refusal, which leaves host and
+// actions as they were.
 pub fn run_report<B: Host>(
     alloc: Global,
     host: &mut B,
@@ -56,7 +59,9 @@ pub fn run_report<B: Host>(
     list: &mut [u32],
     acts: &mut [Act],
 ) -> Result<String, Failure<String>>
-    ensures { IfTold result (λ s. Reported B.Survey.situation B.service B.does request.entry host.old host.new list.old list.new acts.old acts.new (string_bytes s)) (λ s. RefusedWith (B.Survey.situation host.old) request.entry (length list.old) (string_bytes s)) }
+    ensures told { IfTold result (λ s. Reported B.Survey.situation B.service B.does request.entry host.old host.new list.old list.new acts.old acts.new (string_bytes s)) (λ s. RefusedWith (B.Survey.situation host.old) request.entry (length list.old) (string_bytes s)) }
+    ensures list { list.new ≡ list_left (B.Survey.situation host.old).universe request.entry list.old }
+    ensures unchanged { IfTold result (λ _. ⊤) (λ _. (host.new ≡ host.old) × (acts.new ≡ acts.old)) }
 {
     match run(host, request, list, acts) {
         Ok(ran) => {

@@ -1,24 +1,17 @@
 // The lines of steps, and the last line.
 ghost use Rattle.std.specs.Prelude.{◌≡◌, ◌+◌, ◌^◌, ◌<◌, ◌≤◌, IfOk, string_bytes};
 ghost use Rattle.executor.specs.Steps.{order_at};
-ghost use Rattle.hosting.specs.Hosting.{yes_no_of};
 ghost use Rattle.runs.specs.Promise.{answers_of};
-ghost use Rattle.run_text.specs.Texts.{answer_text, answers_text, done_line_of, end_line_of, finish_text, met_text, place_after, stands_text, step_line, survey_line};
+ghost use Rattle.run_text.specs.Texts.{answer_text, answers_text, done_line_of, end_line_of, finish_text, met_text, place_after, step_line, survey_line};
 
 use executor::fault::StepFault;
+use executor::steps::order_at;
+use hosting::stands_text;
 use hosts::survey::Survey;
-use lines::decode;
 use model::order::Order;
 use rules::gaps::{Prospect, find_gap};
 use runs::request::{Act, Ran};
 use std::alloc::{AllocError, Global};
-
-// The order of the line at the place; none where no line is left.
-fn order_at(lines: &[u32], place: usize) -> Option<Order>
-    ensures { result ≡ order_at lines.now place }
-{
-    decode(*lines.get(place)?).ok()
-}
 
 // The line of a step that was done: `PLACE ORDER: done`.
 fn done_line(alloc: Global, place: usize, order: Option<Order>) -> Result<String, AllocError>
@@ -96,12 +89,6 @@ pub fn answer_lines(alloc: Global, lines: &[u32], acts: &[Act]) -> Result<String
     Ok(text)
 }
 
-fn yes_no(test: bool) -> &'static str
-    ensures { result.now ≡ yes_no_of test }
-{
-    if test { "yes" } else { "no" }
-}
-
 // Whether a goal is met, as the last line has it.
 fn met_text(met: Option<bool>) -> &'static str
     ensures { result.now ≡ met_text met }
@@ -123,19 +110,6 @@ fn finish_text(alloc: Global, ran: Ran) -> Result<String, AllocError>
         leases,
     } = ran;
     format!(in alloc; "place {place} of {lines}, leases {leases}")
-}
-
-// What stands: `instances I, bindings J, gap-free yes`.
-fn stands_text(
-    alloc: Global,
-    instances: u32,
-    bindings: u32,
-    gap_free: bool,
-) -> Result<String, AllocError>
-    ensures { IfOk result (λ s. string_bytes s ≡ stands_text instances bindings gap_free) }
-{
-    let gap_free = yes_no(gap_free);
-    format!(in alloc; "instances {instances}, bindings {bindings}, gap-free {gap_free}")
 }
 
 // The last line: where the run was finished, what stands, and with a goal whether it is met.

@@ -41,7 +41,7 @@ one_at_most false = omega arith
 module _ {H : Type 0} (s : H → Situation) (v : H → Service) (does : Order → H → H → Answer → Type 0) (xs : List ℕ) (os : List Order) (m : Meaning)
     (start : Start os m) (told : map decoded xs ≡ map Ok os) (none : bindings_of m.situation ≡ 0) where
   abbrev at : Running H → Progress
-  at a = progress_of s v does a
+  at a = progress_of s v a
 
   -- where a run from m has come by j steps, no more than j bindings were made
   pub record Come (j : ℕ) (a : Progress) : Type 0 where

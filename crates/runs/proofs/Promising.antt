@@ -15,7 +15,7 @@ use Rattle.execution.specs.Laws.{AsExpected, Intact, Start}
 use Rattle.execution.proofs.Laws.{ends_law, steps_law, steps_reach}
 use Rattle.execution.proofs.Standing.{kept_first}
 use Rattle.executor.specs.declared.fault.StepFault.{StepFault}
-use Rattle.executor.specs.Steps.{most}
+use Rattle.executor.specs.Steps.{beginning, most}
 use Rattle.passing.proofs.Planned.{told_length}
 use Rattle.passing.proofs.Starting.{start_law}
 use Rattle.runs.specs.declared.request.Act.{Act}
@@ -24,7 +24,7 @@ use Rattle.runs.specs.declared.request.Request.{Request}
 use Rattle.runs.specs.declared.request.Request.TheVariants.{Goal, Script}
 use Rattle.runs.specs.Refusals.{lines_run}
 use Rattle.runs.specs.Promise.{AsPlanned, GoalMet, Promised, Sound, actions_of, answers_of}
-use Rattle.runs.specs.Taken.{RanOver, beginning}
+use Rattle.runs.specs.Taken.{RanOver}
 use Rattle.runs.proofs.Following.{follow}
 
 -- there are as many answers as actions

@@ -15,9 +15,9 @@ use Rattle.executor.specs.declared.stages.Finished.{Finished}
 use Rattle.executor.specs.declared.stages.RunningPlan.{RunningPlan}
 use Rattle.executor.specs.declared.stages.Ticket.{Ticket}
 use Rattle.executor.specs.Stages.{finished, first_stage, lines_of, started}
-use Rattle.executor.specs.Steps.{running}
+use Rattle.executor.specs.Steps.{beginning, running}
 use Rattle.runs.specs.declared.request.Act.{Act}
-use Rattle.runs.specs.Taken.{Acted, RanOver, beginning}
+use Rattle.runs.specs.Taken.{Acted, RanOver}
 
 -- a plan has the lines of the draft
 plan_lines : (d : Draft) (r : Result (Unit {0}) CheckRefusal) (p : CheckedPlan) → plan_of d r ≡ Ok p → p ≡ record { lines = d.lines }

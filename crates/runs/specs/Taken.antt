@@ -1,4 +1,5 @@
--- The steps that a call takes, in the terms of its host.
+-- The steps that a call takes, in the terms of its host; and its refusals and lines, as the calls that it makes tell them one
+-- after the other.
 use Rattle.std.specs.Prelude.{◌≡◌, ℕ, ◌-◌, List, length, map, take, Some, Ok, Err, Option, Result}
 use Rattle.model.specs.declared.order.Order.{Order}
 use Rattle.model.specs.Universe.{Universe}
@@ -9,7 +10,7 @@ use Rattle.planner.specs.declared.refusal.PlanRefusal.{PlanRefusal}
 use Rattle.planner.specs.Planning.{list_after, plan_answer, planned}
 use Rattle.checking.specs.Checking.{lines_checked}
 use Rattle.executor.specs.declared.fault.StepFault.{StepFault}
-use Rattle.executor.specs.Steps.{Running, TakesAll}
+use Rattle.executor.specs.Steps.{Running, TakesAll, beginning}
 use Rattle.runs.specs.declared.request.Act.{Act}
 use Rattle.runs.specs.declared.request.Ran.{Ran}
 use Rattle.runs.specs.declared.request.Request.{Request}
@@ -33,10 +34,6 @@ request_refusal s (Script ys) xs = script_refusal (lines_checked s ys.now)
 abbrev pub IsPlanned : Universe → Request → ℕ → ℕ → Type 0
 IsPlanned u (Goal bs) room n = plan_answer (planned u bs.now) room ≡ Ok n
 IsPlanned u (Script xs) room n = Unit {0}
-
--- a run that begins over the host
-abbrev pub beginning : {H : Type 0} → H → Running H
-beginning h = record { host = h; place = 0; made = 0; ended = 0 }
 
 -- s and v tell what a host means, and `does` just what it does
 module _ {H : Type 0} (s : H → Situation) (v : H → Service) (does : Order → H → H → Answer → Type 0) where

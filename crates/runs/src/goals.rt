@@ -1,6 +1,5 @@
 // Whether a goal is met.
 ghost use Rattle.std.specs.Prelude.{◌≡◌};
-ghost use Rattle.std.specs.List.{list_all};
 ghost use Rattle.planner.specs.Goals.{goal_of};
 ghost use Rattle.runs.specs.Goals.{TellsMet, attained, is_pair, met};
 

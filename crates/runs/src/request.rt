@@ -9,7 +9,7 @@ use planner::refusal::PlanRefusal;
 use std::fmt;
 
 // What is to be run.
-#[derive(Clone, Copy)]
+#[derive(Clone, Copy, Debug)]
 pub enum Request<'a> {
     // A goal, a line in each byte, for which a script is planned.
     Goal(&'a [u8]),
@@ -37,7 +37,7 @@ pub enum Action {
 }
 
 // An action of the caller, and the place for its answer.
-#[derive(Clone, Copy)]
+#[derive(Clone, Copy, PartialEq, Eq, Debug)]
 pub struct Act {
     pub action: Action,
     pub answer: Option<Result<(), StepFault>>,

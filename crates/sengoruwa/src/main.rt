@@ -20,7 +20,7 @@ use scripts::{
     NoOrder, PackFault, lines_report, pack_orders, pack_text, parse_orders, refusal_text,
     script_bytes, script_lines,
 };
-use std::alloc::{AllocError, Global};
+use std::alloc::AllocError;
 use std::process::ExitCode;
 use std::{env, fmt, fs, io, mem};
 
@@ -279,42 +279,51 @@ fn plan<'a>(rt: &HostRuntime, words: &'a [String]) -> Result<(), Stop<'a>> {
     Ok(rt.print(lines_report(rt.alloc(), &lines)?)?)
 }
 
-// The plain words of the command `run`: the universe, and the goal if no script is given.
-fn run_words(words: &[String], has_script: bool) -> Result<(&str, &str), Misuse<'_>> {
-    if !has_script {
-        return two_words(words);
-    }
-    match (plain_word(words, 0), plain_word(words, 1)) {
-        (Some(universe), None) => Ok((universe, "")),
+// The plain words of a command that has one or two.
+fn one_or_two_words(words: &[String]) -> Result<(&str, Option<&str>), Misuse<'_>> {
+    match (
+        plain_word(words, 0),
+        plain_word(words, 1),
+        plain_word(words, 2),
+    ) {
+        (Some(first), second, None) => Ok((first, second)),
         _ => Err(Misuse::Usage),
     }
 }
 
-// Runs a goal or a packed script on a fresh host of the universe.
+// Runs the request on a fresh host of the universe.
+fn show_run<'a>(
+    rt: &HostRuntime,
+    universe: &'a str,
+    request: Request<'_>,
+    given: Given,
+) -> Result<(), Stop<'a>> {
+    let universe = read_file(rt, universe)?;
+    let text = run_command_report(
+        rt.alloc(),
+        &universe,
+        given.host_options(),
+        request,
+        given.steps,
+    )?;
+    Ok(rt.print(text)?)
+}
+
+// Runs a goal, or the packed script that an option names.
 fn run<'a>(rt: &HostRuntime, words: &'a [String]) -> Result<(), Stop<'a>> {
     let given = command_options(Command::Run, words)?;
-    let script = given.script.and_then(|place| words.get(place));
-    let (universe, goal) = run_words(words, script.is_some())?;
-    let universe = read_file(rt, universe)?;
-    let options = given.host_options();
-    let alloc = rt.alloc();
-    let text = match script {
-        Some(path) => {
-            let lines = read_script(rt, path.as_str())?;
-            run_command_report(
-                alloc,
-                &universe,
-                options,
-                Request::Script(&lines),
-                given.steps,
-            )?
-        }
-        None => {
+    let (universe, goal) = one_or_two_words(words)?;
+    match (goal, given.script.and_then(|place| words.get(place))) {
+        (Some(goal), None) => {
             let goal = read_goal(rt, goal)?;
-            run_command_report(alloc, &universe, options, Request::Goal(&goal), given.steps)?
+            show_run(rt, universe, Request::Goal(&goal), given)
         }
-    };
-    Ok(rt.print(text)?)
+        (None, Some(path)) => {
+            let lines = read_script(rt, path.as_str())?;
+            show_run(rt, universe, Request::Script(&lines), given)
+        }
+        _ => Err(Stop::Misused(Misuse::Usage)),
+    }
 }
 
 // A slow cloud with one layer that refuses gaps.
