@@ -1,10 +1,11 @@
-"""Times the command `run` on its largest inputs: scripts of 32,768 lines on clouds with delays 0 and 8 and no layer, one and two.
+"""Times the command `run` on its largest inputs: scripts of 32,768 lines on clouds with delays 0 and 8 and no layer, one
+and two.
 
     python3 tools/bench_runs.py [PROGRAM]
 
-PROGRAM is the built program, crates/sengoruwa/out/sengoruwa if it is not given. Each row has the seconds that the whole command
-took, checking, reading and printing included, the least of some tries where it does not take long; with the command's own number of steps, by which every run
-ends here, and with the most steps that may be asked for.
+PROGRAM is the built program, crates/sengoruwa/out/sengoruwa if it is not given. Each row has the seconds that the whole
+command took, checking, reading and printing included, the least of some tries where it does not take long; with the
+command's own number of steps, by which every run ends here, and with the most steps that may be asked for.
 """
 import os
 import subprocess
