@@ -23,7 +23,7 @@ use Rattle.runs.specs.declared.request.Ran.{Ran}
 use Rattle.runs.specs.declared.request.Request.{Request}
 use Rattle.runs.specs.declared.request.Request.TheVariants.{Goal, Script}
 use Rattle.runs.specs.Refusals.{lines_run}
-use Rattle.runs.specs.Promise.{AsPlanned, GoalMet, Promised, Sound, actions_of, answers_of}
+use Rattle.runs.specs.Promise.{AsPlanned, GoalMet, Promised, HoldsAfter, actions_of, answers_of}
 use Rattle.runs.specs.Taken.{RanOver}
 use Rattle.runs.proofs.Following.{follow}
 
@@ -85,7 +85,7 @@ module _ {H : Type 0} (s : H → Situation) (v : H → Service) (does : Order �
         gap_free = rw host at whole.gap_free;
         leases = sym counted ∙ whole.leases none ∙ ap (λ (n : Meaning). bindings_of n.situation) host;
         every = λ ts steps.
-            All-weaker (λ (t : Step). Intact os m t.progress × AsExpected t.answer) (Sound os m)
+            All-weaker (λ (t : Step). Intact os m t.progress × AsExpected t.answer) (HoldsAfter os m)
             (λ t k. record { gap_free = k.0.gap_free; answer = k.1; leases = k.0.leases none; stands = empty_stands os m t.progress is k.0 })
             ts (steps_law os m ts start steps);
         ends = λ ts steps covers many.

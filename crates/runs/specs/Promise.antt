@@ -73,7 +73,7 @@ pub record Ended (request : Request) (os : List Order) (m : Meaning) (a : Progre
 
 -- what holds after a step of a run from m, where nothing stood: nothing has a gap; the host's answer, if there was one, was
 -- done, busy or full; the leases are the bindings that stand; and what stands is what the lines before the place lead to
-pub record Sound (os : List Order) (m : Meaning) (t : Step) : Type 0 where
+pub record HoldsAfter (os : List Order) (m : Meaning) (t : Step) : Type 0 where
   pub gap_free : GapFree t.progress.host.situation.universe t.progress.host.situation.config
   pub answer : AsExpected t.answer
   pub leases : leases t.progress ≡ bindings_of t.progress.host.situation
@@ -95,7 +95,7 @@ pub record Promised (request : Request) (m n : Meaning) (xs : List ℕ) (before 
   pub gap_free : GapFree n.situation.universe n.situation.config
   pub leases : r.leases ≡ bindings_of n.situation
   -- and so after every step of every run of them, whatever the steps
-  pub every : (ts : List Step) → Steps orders (begun m) ts → All (Sound orders m) ts
+  pub every : (ts : List Step) → Steps orders (begun m) ts → All (HoldsAfter orders m) ts
   -- where the allowances cover them, every run of lines × (longest wait + 1) steps or more comes to its end
   pub ends : (ts : List Step) → Steps orders (begun m) ts → CoversAll orders m.service.load →
       length orders * (m.service.profile.longest + 1) ≤ length ts → Ended request orders m (reached (begun m) ts)
