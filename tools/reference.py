@@ -803,14 +803,16 @@ def main():
             out += f"{label}:\n{show(data)}"
         tables.append((name, rows))
     write_case("cases", tables, out)
-    for crate, first, second in [
-        ("host_cases", ("hosts", hosts_table()), ("layered", layered_table())),
-        ("plan_cases", ("closings", closings_table()), ("plans", plans_table())),
-        ("check_cases", ("drafts", check_cases.drafts_table()), ("standing", check_cases.standing_table())),
+    for crate, named in [
+        ("host_cases", [("hosts", hosts_table()), ("layered", layered_table())]),
+        ("plan_cases", [("closings", closings_table()), ("plans", plans_table())]),
+        ("script_cases", [
+            ("drafts", check_cases.drafts_table()),
+            ("standing", check_cases.standing_table()),
+            ("runs", run_cases.runs_table()),
+        ]),
     ]:
-        write_case(crate, [(name, rows) for name, (rows, _) in (first, second)], first[1][1] + second[1][1])
-    rows, out = run_cases.runs_table()
-    write_case("run_cases", [("runs", rows)], out)
+        write_case(crate, [(name, rows) for name, (rows, _) in named], "".join(out for _, (_, out) in named))
 
 
 if __name__ == "__main__":

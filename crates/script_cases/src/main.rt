@@ -1,23 +1,26 @@
-// Worked cases of checks. Each row of a table has a universe and a draft, or a universe, the orders that a
-// cloud of it is given first, and a draft; the program prints what the check answers, and what then stands
-// in the cloud. Its expected output is made by another implementation of the rules, tools/reference.py.
+// Worked cases of checks and of whole runs. Each row of a table has a universe and a draft, or a universe, the orders that a
+// cloud of it is given first, and a draft, or a universe, a request, the options of a host and a number of steps; the program
+// prints what the check answers, and what then stands in the cloud, or what the command `run` prints. Its expected output is
+// made by another implementation of the rules, tools/reference.py.
 #![tactic(auto)]
 
+mod run_rows;
+mod words;
+
+use crate::run_rows::show_run;
+use crate::words::{word_bytes, word_lines};
 use check_text::{answer_line, check_report};
 use checking::check::check;
 use checking::stages::Draft;
 use cloud::Cloud;
 use console::failure::Failure;
-use console::hex::parse_hex;
 use console::report::read_universe;
 use hosts::host::give;
 use hosts::survey::Survey;
 use layers::verifying::Verifying;
 use lines::decode;
 use rows::show_table;
-use scripts::script_lines;
 use table::limits::Limits;
-use text::parse_number;
 use universe::held::Universe;
 
 // The largest limits of a cloud.
@@ -32,52 +35,11 @@ const NO_ROOM: Limits = Limits {
     bindings: 0,
 };
 
-// What a call made, or none where it was refused.
-fn unless_refused<T, E: Drop>(made: Result<T, Failure<E>>) -> anyhow::Result<Option<T>> {
-    match made {
-        Ok(value) => Ok(Some(value)),
-        Err(failure) => {
-            failure.into_refusal()?;
-            Ok(None)
-        }
-    }
-}
-
-// The bytes of a word in hexadecimal digits.
-fn word_bytes(rt: &HostRuntime, word: &str) -> anyhow::Result<Option<Vec<u8>>> {
-    unless_refused(parse_hex(rt.alloc(), word.as_bytes()))
-}
-
-// The lines that digits write.
-fn digit_lines(rt: &HostRuntime, digits: &str) -> anyhow::Result<Option<Vec<u32>>> {
-    match word_bytes(rt, digits)? {
-        Some(bytes) => unless_refused(script_lines(rt.alloc(), &bytes)),
-        None => Ok(None),
-    }
-}
-
-// The lines of a word: its segments have plus signs between them, and each is digits, which may have a
-// star and a count behind them, how often their lines come; a dash is no lines.
-fn word_lines(rt: &HostRuntime, word: &str) -> anyhow::Result<Option<Vec<u32>>> {
-    let mut script = Vec::new(rt.alloc());
-    if word == "-" {
-        return Ok(Some(script));
-    }
-    for segment in word.split('+') {
-        let (digits, count) = segment.split_once("*").unwrap_or((segment, "1"));
-        let (Some(lines), Some(count)) = (digit_lines(rt, digits)?, parse_number(count.as_bytes()))
-        else {
-            return Ok(None);
-        };
-        for _ in 0..count {
-            script.extend_from_slice(&lines)?;
-        }
-    }
-    Ok(Some(script))
-}
-
 // Prints an answer, or its refusal.
-fn print_answer(rt: &HostRuntime, answer: Result<String, Failure<String>>) -> anyhow::Result<()> {
+pub(crate) fn print_answer(
+    rt: &HostRuntime,
+    answer: Result<String, Failure<String>>,
+) -> anyhow::Result<()> {
     Ok(rt.print(answer.or_else(Failure::into_refusal)?)?)
 }
 
@@ -142,5 +104,6 @@ fn show_standing(rt: &HostRuntime, row: &str) -> anyhow::Result<()> {
 
 fn main(rt: HostRuntime) -> anyhow::Result<()> {
     show_table(&rt, "drafts", |row| show_draft(&rt, row))?;
-    show_table(&rt, "standing", |row| show_standing(&rt, row))
+    show_table(&rt, "standing", |row| show_standing(&rt, row))?;
+    show_table(&rt, "runs", |row| show_run(&rt, row))
 }
