@@ -12,11 +12,12 @@ use Rattle.executor.specs.declared.fault.StepFault.TheVariants.{NoLine, Refused}
 use Rattle.executor.specs.declared.stages.RunningPlan.{RunningPlan}
 use Rattle.executor.specs.declared.stages.Ticket.{Ticket}
 
--- the order that a line tells, if there is a line, and it tells one
+-- the order that was decoded, if one was
 abbrev pub order_told : Result Order LineRefusal → Option Order
 order_told (Ok o) = Some o
 order_told (Err e) = None
 
+-- the order that a line tells, if there is a line
 abbrev pub order_of_line : Option ℕ → Option Order
 order_of_line (Some x) = order_told (decoded x)
 order_of_line None = None
