@@ -168,14 +168,23 @@ def compare(program, count, seed):
     return differed == 0
 
 
-def main():
-    options = argparse.ArgumentParser(description="Compares the command check with the check in checking.py.")
-    options.add_argument("count", type=int, metavar="N", help="how many random universes and drafts")
+def chosen(about, cases, own):
+    """The program (none with --own), the number of cases and the seed among the command's words."""
+    options = argparse.ArgumentParser(description=about)
+    options.add_argument("count", type=int, metavar="N", help=cases)
     options.add_argument("program", nargs="?", default=os.path.join(ROOT, "crates", "sengoruwa", "out", "sengoruwa"))
     options.add_argument("--seed", type=int, default=1, help="where the random cases begin (1)")
-    options.add_argument("--own", action="store_true", help="compare the two searches for gaps in checking.py")
+    options.add_argument("--own", action="store_true", help=own)
     given = options.parse_intermixed_args()
-    return compare(None if given.own else given.program, given.count, given.seed)
+    return None if given.own else given.program, given.count, given.seed
+
+
+def main():
+    return compare(*chosen(
+        "Compares the command check with the check in checking.py.",
+        "how many random universes and drafts",
+        "compare the two searches for gaps in checking.py",
+    ))
 
 
 if __name__ == "__main__":

@@ -11,7 +11,6 @@ files of the first that differ are kept and named.
 
 With --own no program is run: what holds of every run is tried on running.py.
 """
-import argparse
 import collections
 import os
 import subprocess
@@ -25,7 +24,6 @@ from reference import read_universe
 from run_cases import LARGEST, lawful
 from running import MOST_STEPS, longest_wait, run_text
 
-ROOT = os.path.join(os.path.dirname(os.path.abspath(__file__)), "..")
 KEPT = 10
 # More steps than these are drawn now and then only, since each prints a line.
 MANY = 100000
@@ -218,13 +216,11 @@ def compare(program, count, seed):
 
 
 def main():
-    options = argparse.ArgumentParser(description="Compares the command run with the runs of running.py.")
-    options.add_argument("count", type=int, metavar="N", help="how many random cases")
-    options.add_argument("program", nargs="?", default=os.path.join(ROOT, "crates", "sengoruwa", "out", "sengoruwa"))
-    options.add_argument("--seed", type=int, default=1, help="where the random cases begin (1)")
-    options.add_argument("--own", action="store_true", help="try what holds of every run on running.py")
-    given = options.parse_intermixed_args()
-    return compare(None if given.own else given.program, given.count, given.seed)
+    return compare(*compare_checks.chosen(
+        "Compares the command run with the runs of running.py.",
+        "how many random cases",
+        "try what holds of every run on running.py",
+    ))
 
 
 if __name__ == "__main__":
