@@ -2,7 +2,7 @@
 use Rattle.std.specs.Prelude.{◌≡◌, ℕ, ◌<◌, ◌≤◌, Bool, true, None}
 use Rattle.model.specs.Universe.{Universe, Valid}
 use Rattle.model.specs.Config.{Config}
-use Rattle.model.specs.Bounded.{any_gap}
+use Rattle.model.specs.Bounded.{any_gap, covers}
 use Rattle.model.specs.Counts.{instances, bindings}
 
 -- a universe, and the configuration that stands
@@ -28,3 +28,7 @@ instances_of s = instances 256 s.config
 -- how many bindings stand
 abbrev pub bindings_of : Situation → ℕ
 bindings_of s = bindings 32 256 s.config
+
+-- how many bindings cover the port p of the instance z
+abbrev pub covers_of : Situation → ℕ → ℕ → ℕ
+covers_of s p z = covers 256 s.universe s.config z p

@@ -1,7 +1,7 @@
 // A survey: a universe and what stands in it, told by questions that alter nothing.
 ghost use Rattle.std.specs.Prelude.{◌≡◌};
 ghost use Rattle.universe.specs.Held.{universe_in};
-ghost use Rattle.hosts.specs.Survey.{Lawful, Situation, bindings_of, instances_of};
+ghost use Rattle.hosts.specs.Survey.{Lawful, Situation, bindings_of, covers_of, instances_of};
 
 use model::binding::Binding;
 use model::pair::Pair;
@@ -33,4 +33,9 @@ pub trait Survey {
     // How many bindings stand.
     fn bindings(&self) -> u32
         ensures { result ≡ bindings_of (situation self.now) };
+
+    // How many bindings cover the port of the requirer: those whose provider is in a state that provides it. It follows from
+    // the questions above; it is asked for each port that an order may uncover, so a survey keeps it counted.
+    fn covers(&self, port: u32, requirer: u32) -> u32
+        ensures { result ≡ covers_of (situation self.now) port requirer };
 }

@@ -1,6 +1,6 @@
 -- The search for gaps among the instances below a bound, which a program can make.
 use Rattle.std.specs.Prelude.{◌≡◌, ℕ, ◌<◌, ◌≤◌, Bool, true, not, ◌&&◌, None}
-use Rattle.model.specs.Search.{any}
+use Rattle.model.specs.Search.{any, one, sum_below}
 use Rattle.model.specs.Universe.{Universe}
 use Rattle.model.specs.Config.{Config, provided, required}
 
@@ -12,6 +12,10 @@ pub record Below (n : ℕ) (c : Config) : Type 0 where
 -- some binding on p to z has a provider below n whose state provides p
 unfoldable pub covered : ℕ → Universe → Config → ℕ → ℕ → Bool
 covered n u c z p = any (λ x. c.bound p x z && provided u p (c.inst x)) n
+
+-- how many bindings on p to z have a provider below n whose state provides p
+unfoldable pub covers : ℕ → Universe → Config → ℕ → ℕ → ℕ
+covers n u c z p = sum_below (λ x. one (c.bound p x z && provided u p (c.inst x))) n
 
 -- z has a gap at p
 unfoldable pub gap_at : ℕ → Universe → Config → ℕ → ℕ → Bool
