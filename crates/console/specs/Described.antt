@@ -58,7 +58,7 @@ counts_line_of types ports = codes "types " ++ (decimal types ++ (codes ", ports
 abbrev pub universe_text_of : Universe → List ℕ
 universe_text_of u = counts_line_of u.types u.ports ++ rows_below (type_lines_of u) u.types
 
--- what is printed of a file: the text of the universe that was read, or the number of the refusal
+-- what is printed of a file: the text of the universe that was read, or the line of the refusal
 abbrev pub report_of : Read Tables → List ℕ
 report_of (Ok held) = universe_text_of (universe_of held)
 report_of (Err e) = codes "refused " ++ (decimal (universe_number e) ++ codes "\n")

@@ -46,7 +46,7 @@ UntestedLaw =
     (o : Order) (s : Situation) → Lawful s → offence o s ≡ None → is_tested o ≡ false → GapFree s.universe s.config →
     GapFree s.universe (result_of o s.config)
 
--- an order without offence adds one instance if it is a create and one binding if it is a bind, and no more
+-- an order without offence adds at most one instance if it is a create, at most one binding if it is a bind, and else none
 abbrev pub GrowthLaw : Type 0
 GrowthLaw =
     (s : Situation) (o : Order) → Lawful s → offence o s ≡ None →

@@ -62,7 +62,7 @@ unbind_offence_of s p x y =
     (refused_if (not (s.config.bound p x y)) Unbound
     None))
 
--- z is the provider of some binding
+-- z is the provider of some binding; by the law of surveys all bindings are among these
 unfoldable pub provider_test : Config → ℕ → Bool
 provider_test c z = any (λ p. any (c.bound p z) 256) 32
 

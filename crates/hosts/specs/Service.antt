@@ -6,11 +6,12 @@ use Rattle.hosts.specs.declared.load.Load.{Load}
 pub record Profile : Type 0 where
   -- the longest wait
   pub longest : ℕ
-  -- orders that leave a gap are refused
+  -- changes and unbinds that leave a gap are refused
   pub watchful : Bool
-  -- how many layers lie below
+  -- of a cloud 0, of a layer one more than of the host below it; the laws ask only that it is at most 255
   pub height : ℕ
 
+-- what orders move, and what no call alters
 pub record Service : Type 0 where
   pub load : Load
   pub profile : Profile

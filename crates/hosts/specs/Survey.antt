@@ -17,7 +17,8 @@ pub record Lawful (s : Situation) : Type 0 where
   pub inst : (z : ℕ) → 256 ≤ z → s.config.inst z ≡ None
   pub bound : (p x y : ℕ) → s.config.bound p x y ≡ true → (p < s.universe.ports) × (x < 256) × (y < 256)
 
--- some instance that stands has a gap
+-- some instance that stands has a gap; here and below, all that stands is looked at by looking below 256 and 32, by the law
+-- of surveys
 abbrev pub has_gap : Situation → Bool
 has_gap s = any_gap 256 s.universe s.config
 

@@ -29,11 +29,11 @@ pub trait Host: Survey {
     fn longest_wait(&self) -> u32
         ensures { result ≡ (service self.now).profile.longest };
 
-    // Whether orders that leave a gap are refused.
+    // Whether changes and unbinds that leave a gap are refused.
     fn is_watchful(&self) -> bool
         ensures { result ≡ (service self.now).profile.watchful };
 
-    // How many layers lie below, up to 255.
+    // Of a cloud 0, and of a layer one more than of the host below it, up to 255.
     fn height(&self) -> u8
         ensures { result ≡ (service self.now).profile.height };
 

@@ -49,7 +49,7 @@ abbrev pub ever_requires : Universe → ℕ → Option Pair → Bool
 ever_requires u p o = passes o (λ h. any (λ q. u.requires h.kind q p) (u.states h.kind))
 
 -- every instance is in a pair of the universe; the ends of every binding stand and differ,
--- and their types have its port
+-- and of its port, some state of the provider's type provides it and some state of the requirer's requires it
 pub record WellFormed (u : Universe) (c : Config) : Type 0 where
   pub pairs : (z : ℕ) (h : Pair) → c.inst z ≡ Some h → IsPair u h.kind h.state
   pub apart : (p x y : ℕ) → c.bound p x y ≡ true → x ≢ y

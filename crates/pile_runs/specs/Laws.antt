@@ -12,7 +12,7 @@ use Rattle.piles.specs.Piles.{fresh, fresh_cloud_of, pile_of}
 use Rattle.executor.specs.Steps.{beginning}
 use Rattle.pile_runs.specs.Piles.{pile_steps}
 
--- every fresh pile is a start for the orders as which lines pass, whatever its layers, limits and delay
+-- every fresh pile of up to two layers is a start for the orders as which lines pass, whatever its limits and delay
 abbrev pub PileStartLaw : Type 0
 PileStartLaw = (u : Universe) (o : HostOptions) (xs : List ℕ) (os : List Order) → Valid u → PassesAs u xs os → Start os (fresh u o)
 

@@ -43,7 +43,7 @@ pub record IsGoal (u : Universe) (bs : List ℕ) : Type 0 where
 abbrev pub Unreached : Universe → List Pair → Type 0
 Unreached u goal = (os : List Order) → Reaches u os goal → ⊥
 
--- a goal is refused as out of reach exactly if no run reaches it
+-- bytes are refused as out of reach exactly if they are a goal that no run reaches
 pub record RefusedExactly (u : Universe) (bs : List ℕ) (r : Result ℕ PlanRefusal) : Type 0 where
   pub only : r ≡ Err OutOfReach → IsGoal u bs × Unreached u (goal_of bs)
   pub always : IsGoal u bs → Unreached u (goal_of bs) → r ≡ Err OutOfReach

@@ -13,7 +13,7 @@ use Rattle.plans.specs.Closing.{closing}
 use Rattle.plans.specs.Plan.{Works}
 use Rattle.plans.specs.Goals.{Met, Reaches}
 use Rattle.plans.specs.Script.{needed_pairs, plan_for, script}
-use Rattle.plans.specs.Laws.{Attainable, ClosingLaw, EndLaw, InReach, LinesLaw, LowerLaw, NeededLaw, ReachLaw, SizeLaw, WorkingLaw, deployed}
+use Rattle.plans.specs.Laws.{Attainable, ClosingLaw, EndLaw, InReach, LinesLaw, LowerLaw, NeededLaw, PlanLaw, ReachLaw, SizeLaw, SupplierLaw, WorkingLaw, deployed}
 use Rattle.plans.proofs.Closed.{Closed}
 use Rattle.plans.proofs.Ranks.{listed_at}
 use Rattle.std.proofs.lemmas.List.Sums.{list_all-from_AllPass}
@@ -27,7 +27,7 @@ use Rattle.plans.proofs.Building.{config_same, done}
 use Rattle.plans.proofs.Walking.{script_ends, script_runs}
 use Rattle.plans.proofs.Measures.{script_bindings, script_length, script_lines, script_lower}
 use Rattle.plans.proofs.Paths.{path_short}
-use Rattle.plans.proofs.Needing.{Sufficient, needed_few, needed_goal, needed_law, needed_sufficient}
+use Rattle.plans.proofs.Needing.{Sufficient, needed_few, needed_goal, needed_law, needed_sufficient, serves_before}
 use Rattle.plans.proofs.Planned.{plan_bindings, plan_instances, plan_meets, plan_works}
 
 -- the plan for the needed pairs
@@ -38,7 +38,7 @@ module _ (u : Universe) (goal : List Pair) (ok : Valid u) where
   sufficient : Sufficient u (closing u) (needed_pairs u goal)
   sufficient = needed_sufficient u (closing u) closed goal ok
 
-  works : Works u (plan_for u (closing u) (needed_pairs u goal))
+  pub works : Works u (plan_for u (closing u) (needed_pairs u goal))
   works = plan_works u (closing u) closed (needed_pairs u goal) sufficient
 
   pub script_is_run : Run u (script u goal)
@@ -99,11 +99,17 @@ attained u ok h e =
 pub working_law : WorkingLaw
 working_law u s ok w = script_runs u s ok w
 
+pub plan_law : PlanLaw
+plan_law u goal ok = works u goal ok
+
 pub closing_law : ClosingLaw
 closing_law u ok h = (attained u ok h, λ a. none_beyond u ok a.0 a.1 a.2.0 h a.2.1)
 
 pub reach_law : ReachLaw
 reach_law u goal ok = (λ reach. (script_is_run u goal ok, meets u goal ok reach), only u goal ok)
+
+pub supplier_law : SupplierLaw
+supplier_law u g h ok e s = serves_before u (closing u) (closing_closed u ok) g h e s
 
 pub needed_pairs_law : NeededLaw
 needed_pairs_law u goal ok reach = needed_law u (closing_closed u ok) goal reach

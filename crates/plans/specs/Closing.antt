@@ -49,7 +49,7 @@ pair_count u = sum_below u.states u.types
 unfoldable pub closing : Universe → List Pair
 closing u = grown u (pair_count u) (initial_pairs u)
 
--- the rank of the parent of an added pair: the lowest that has it as a successor
+-- the rank of the parent of an added pair: the lowest that has it as a successor; the number of listed pairs where none has
 abbrev pub parent_rank : Universe → List Pair → Pair → ℕ
 parent_rank u l h = position_or_len (follows u h) l
 

@@ -13,7 +13,7 @@ use Rattle.plans.specs.Closing.{closing, supplier_rank}
 use Rattle.plans.specs.Needs.{serves}
 use Rattle.plans.specs.Plan.{Plan, Works, script_of}
 use Rattle.plans.specs.Goals.{Attained, Reaches}
-use Rattle.plans.specs.Script.{needed_pairs, script}
+use Rattle.plans.specs.Script.{needed_pairs, plan_for, script}
 
 -- some run ends with an instance in the pair; a run up to any of its places is a run, so this is the same as ever
 -- having one
@@ -23,6 +23,10 @@ Attainable u h = (os : List Order) × Run u os × Attained (after empty os) h
 -- the script of every plan that works is a run from what stands at the outset
 abbrev pub WorkingLaw : Type 0
 WorkingLaw = (u : Universe) (s : Plan) → Valid u → Works u s → RunsFrom u s.outset (script_of u s)
+
+-- the plan for the needed pairs of a goal works
+abbrev pub PlanLaw : Type 0
+PlanLaw = (u : Universe) (goal : List Pair) → Valid u → Works u (plan_for u (closing u) (needed_pairs u goal))
 
 -- the closing order lists a pair exactly if some run ever has an instance in it
 abbrev pub ClosingLaw : Type 0
@@ -43,6 +47,12 @@ pub data Needed (u : Universe) (goal : List Pair) : Pair → Type 0 where
   wanted : {h : Pair} → listed goal h ≡ true → Needed u goal h
   serving : {h : Pair} (g : Pair) → Needed u goal h → listed (closing u) g ≡ true → serves u (closing u) g h ≡ true → Needed u goal g
 
+-- a supplier has a lower rank than each pair that needs it
+abbrev pub SupplierLaw : Type 0
+SupplierLaw =
+    (u : Universe) (g h : Pair) → Valid u → listed (closing u) h ≡ true → serves u (closing u) g h ≡ true →
+    rank_of (closing u) g < rank_of (closing u) h
+
 -- the needed pairs are those, and they come in the order of their ranks
 abbrev pub NeededLaw : Type 0
 NeededLaw =
@@ -50,7 +60,7 @@ NeededLaw =
     ((h : Pair) → (listed (needed_pairs u goal) h ≡ true) ↔ Needed u goal h) ×
     ((j k : ℕ) → j < k → k < length (needed_pairs u goal) → rank_of (closing u) (pair_at (needed_pairs u goal) j) < rank_of (closing u) (pair_at (needed_pairs u goal) k))
 
--- what the script leaves: in each needed pair the instance of its number, and for each port that it requires a binding
+-- what is deployed for a goal: in each needed pair the instance of its number, and for each port that it requires a binding
 -- to the instance of the port's supplier; nothing else
 abbrev pub deployed : Universe → List Pair → Config
 deployed u goal = record {
@@ -58,6 +68,7 @@ deployed u goal = record {
   bound = λ p x y. required u p (slice_get (needed_pairs u goal) y) && (x == rank_of (needed_pairs u goal) (pair_at (closing u) (supplier_rank u (closing u) p)));
 }
 
+-- that is what the script leaves
 abbrev pub EndLaw : Type 0
 EndLaw = (u : Universe) (goal : List Pair) → Valid u → after empty (script u goal) ≡ deployed u goal
 

@@ -10,7 +10,7 @@ use Rattle.executor.specs.declared.fault.StepFault.TheVariants.{NoLine, Refused}
 use Rattle.executor.specs.Refusals.{fault_number}
 use Rattle.runs.specs.declared.request.Ran.{Ran}
 
--- the line of a step that was done: its place, and the order in its written form
+-- the line of a step that was done: its place, and the order in its written form; a step without an order is never done
 abbrev pub done_line_of : ℕ → Option Order → List ℕ
 done_line_of place (Some o) = decimal place ++ (codes " " ++ (written o ++ codes ": done\n"))
 done_line_of place None = decimal place ++ codes ": done\n"

@@ -24,7 +24,7 @@ use Rattle.runs.specs.declared.request.Request.TheVariants.{Goal, Script}
 use Rattle.runs.specs.Refusals.{lines_run}
 
 -- what a step of a run answers to the caller: the host's answer, and with a refusal the place and the order; or that no line
--- is left; by the law over runs there is an answer exactly if there is an order
+-- is left; by the definition of a step there is an answer exactly if there is an order
 abbrev pub step_answer : ℕ → Option Order → Option Answer → Result (Unit {0}) StepFault
 step_answer place (Some o) (Some r) = answer_at place o r
 step_answer place (Some o) None = Err NoLine

@@ -1,4 +1,4 @@
--- The law of the written form: an order comes back from its text, and a text is read as an order only if it writes it.
+-- The law of the written form: an order comes back from its text, and a text is read as an order exactly if it writes it.
 use Rattle.std.specs.Prelude.{◌≡◌, ℕ, ◌^◌, ◌<◌, List, [], ◌∷◌, ◌++◌, Some, codes}
 use Rattle.std.specs.Str.Parse.{IsNumeral, digits_value}
 use Rattle.model.specs.declared.order.Order.{Order}
