@@ -7,3 +7,4 @@ pub mod GapSearch
 pub mod Runs
 pub mod Counting
 pub mod Ranges
+pub mod CoverCounts
