@@ -4,3 +4,5 @@ pub mod RowMoves
 pub mod Slots
 pub mod Performed
 pub mod Applying
+pub mod CoverTurns
+pub mod Covered

@@ -1,10 +1,12 @@
 -- What ordered rows hold, and what a search among them tells. Assumes nothing.
-use Rattle.std.proofs.Common.{◌≡◌, ℕ, zero, suc, ◌+◌, ◌*◌, ◌<◌, ◌≤◌, Bool, true, false, ◌&&◌, ◌||◌, eqb, ltb, List, length, take, get_or, Decides, Option, Some, None, MatchOption, Bor, sym, refl, ap, ◌∙◌, subst, inl, inr, arith}
+use Rattle.std.proofs.Common.{◌≡◌, ℕ, zero, suc, ◌+◌, ◌-◌, ◌*◌, ◌<◌, ◌≤◌, Bool, true, false, ◌&&◌, ◌||◌, eqb, ltb, List, length, take, get_or, Decides, Option, Some, None, MatchOption, Bor, sym, refl, ap, ◌∙◌, subst, inl, inr, arith}
 use mathlib.Core.Bool.{or-false}
-use Rattle.std.proofs.lemmas.Bool.{and_from, and_parts, cases_order, eq-eqb, eqb-true, lt-ltb, ltb-true, or_right}
-use Rattle.std.proofs.lemmas.Bool.Decides.{same_from_decides}
+use Rattle.std.proofs.lemmas.Bool.{and_from, and_parts, cases_lt, cases_order, eq-eqb, eqb-true, lt-ltb, ltb-true, or_right}
+use Rattle.std.proofs.lemmas.Bool.Decides.{same_from_decides, Decides-like}
 use Rattle.std.specs.Slice.{IsItemAt}
 use Rattle.std.proofs.lemmas.List.{get_or-take, get_or_default, length-take-le}
+use Rattle.std.specs.List.{between}
+use Rattle.std.proofs.lemmas.List.Edits.{length-between, get_or-between}
 use Rattle.model.specs.declared.binding.Binding.{Binding}
 use Rattle.model.specs.declared.pair.Pair.{Pair}
 use Rattle.model.specs.Search.{any}
@@ -17,6 +19,7 @@ use Rattle.model.proofs.Counting.{bindings_more, bindings_none}
 use Rattle.hosts.specs.Offences.{provider_test}
 use Rattle.table.specs.declared.row.Row.{Row}
 use Rattle.table.specs.Rows.{binding_of, blank, row, rank, joins, held, Among, Ordered, Place}
+use Rattle.table.specs.Covers.{RowsFrom}
 
 -- the binding on the port p from x to y
 abbrev pub binding : ℕ → ℕ → ℕ → Binding
@@ -170,7 +173,7 @@ module _ (xs : List Row) (n : ℕ) (o : Ordered xs n) where
     provider_beyond h =
         sym (refuted _ (λ e. let a = provider_tells.0 e in omega (arith, a.2, (row xs a.0).in_range)))
 
-any_suc : (f : ℕ → Bool) (n : ℕ) → any f (suc n) ≡ (any f n || f n)
+pub any_suc : (f : ℕ → Bool) (n : ℕ) → any f (suc n) ≡ (any f n || f n)
 unfolding any
 any_suc f n = refl
 
@@ -198,3 +201,52 @@ row_count f xs (suc n) o =
         let l = a.1 in
         let same = one_place xs (suc n) o a.0 n (omega arith) (omega arith) (one_rank (row xs a.0) (row xs n) a.2) in
         omega arith)
+
+-- the rows between two places are those of a provider
+module _ (f : ℕ → Option Pair) (xs : List Row) (n z r e : ℕ) (o : Ordered xs n) (room : n ≤ length xs) (first : Place xs n (z * 8192) r) (end : Place xs n ((z + 1) * 8192) e) where
+  abbrev part : List Row
+  part = between r e xs
+
+  long : length part ≡ e - r
+  long = length-between xs r e (omega (arith, end.most))
+
+  at : (i : ℕ) → i < length part → row part i ≡ row xs (r + i)
+  at i l = get_or-between xs r e i blank (omega (arith, long))
+
+  inside : (i : ℕ) → i < length part → r + i < n
+  inside i l = omega (arith, long, end.most)
+
+  of_provider : (i : ℕ) → i < length part → (row part i).provider ≡ z
+  of_provider i l =
+      let b = row xs (r + i) in
+      let low = first.after (r + i) (omega arith) (inside i l) in
+      let high = end.before (r + i) (omega (arith, long)) in
+      ap (λ (b : Row). b.provider) (at i l) ∙ omega (arith, b.in_range, low, high)
+
+  same_held : (p y : ℕ) → held part (length part) p z y ≡ held xs n p z y
+  same_held p y = same_from_decides _ _ (Decides-like _ forth back (held_tells part (length part) p z y)) (held_tells xs n p z y)
+    where
+      forth : Among part (length part) (binding p z y) → Among xs n (binding p z y)
+      forth a = (r + a.0, inside a.0 a.1, ap binding_of (sym (at a.0 a.1)) ∙ a.2)
+
+      back : Among xs n (binding p z y) → Among part (length part) (binding p z y)
+      back a =
+          let b = row xs a.0 in
+          let is : b.provider ≡ z = ap (λ (j : Binding). j.provider) a.2 in
+          let ge : r ≤ a.0 = elim (cases_lt a.0 r) [
+            | inl lt ↦ let h = first.before a.0 lt in absurd (omega (arith, b.in_range))
+            | inr ge ↦ ge
+          ] in
+          let lt : a.0 < e = elim (cases_lt a.0 e) [
+            | inl lt ↦ lt
+            | inr ge ↦ let h = end.after a.0 ge a.1 in absurd (omega (arith, b.in_range))
+          ] in
+          let l : a.0 - r < length part = omega (arith, long) in
+          let k : r + (a.0 - r) ≡ a.0 = omega arith in
+          (a.0 - r, l, ap binding_of (at (a.0 - r) l ∙ ap (row xs) k) ∙ a.2)
+
+  rises : Ordered part (length part)
+  rises i j a l = rw (at i (omega arith), at j l) (o (r + i) (r + j) (omega arith) (inside j l))
+
+  pub rows_between : RowsFrom (holding f xs n) z part
+  rows_between = record { provider = of_provider; held = same_held; ordered = rises }

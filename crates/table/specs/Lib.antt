@@ -1,4 +1,5 @@
 pub mod Rows
 pub mod Fit
 pub mod Records
+pub mod Covers
 pub mod Table

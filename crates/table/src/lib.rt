@@ -1,6 +1,8 @@
 // The table of what stands in a universe: instances by number, and bindings in rising order.
 #![tactic(auto)]
 
+mod counting;
+mod covers;
 pub mod limits;
 mod orders;
 mod records;

@@ -6,6 +6,7 @@ ghost use Rattle.hosts.specs.Offences.{delete_offence_of, offence as offence_of}
 ghost use Rattle.hosts.specs.Answers.{full_test};
 ghost use Rattle.table.specs.Table.{applied, held_of, lawful_of, load_of, situation_of, table_rule, told};
 
+use crate::covers::Covers;
 use crate::limits::Limits;
 use crate::records::Records;
 use crate::table::Table;
@@ -41,10 +42,16 @@ impl Survey for Table {
     fn bindings(&self) -> u32 {
         self.records.bindings()
     }
+
+    #[tactic(auto, using(crate::proofs::Covered::counted_within))]
+    fn covers(&self, port: u32, requirer: u32) -> u32 {
+        self.covers.at(port, requirer)
+    }
 }
 
 impl Table {
     // An empty table of the universe, with these limits; larger ones count as the largest, 256 and 2048.
+    #[tactic(auto, using(crate::proofs::Covered::none_counted))]
     pub fn open(universe: Universe, limits: Limits) -> Self
         ensures { held_of result ≡ record { situation = record { universe = universe_in universe; config = empty }; limits = record { instances = min limits.instances 256; bindings = min limits.bindings 2048 } } }
     {
@@ -55,6 +62,7 @@ impl Table {
         Table {
             universe,
             records: Records::empty(),
+            covers: Covers::none(),
             limits,
         }
     }
@@ -132,6 +140,7 @@ impl Table {
         requires { table_rule order (held_of self.old) ≡ None }
         ensures { held_of self.new ≡ applied order None (held_of self.old) }
     {
+        self.covers.perform(&self.universe, &self.records, order);
         self.records.perform(order);
     }
 

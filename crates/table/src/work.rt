@@ -7,6 +7,7 @@ ghost use Rattle.model.specs.Orders.{result_of};
 ghost use Rattle.hosts.specs.Offences.{provider_test};
 ghost use Rattle.table.specs.Rows.{Place, binding_of};
 ghost use Rattle.table.specs.Records.{Able, config_of};
+ghost use Rattle.table.specs.Covers.{RowsFrom};
 
 use crate::records::Records;
 use crate::row::Row;
@@ -94,6 +95,17 @@ impl Records {
         self.used_rows()
             .get(place)
             .is_some_and(|row| row.starts_at(instance))
+    }
+
+    // The rows of the provider.
+    #[tactic(auto, using(crate::proofs::RowSearch::rows_between))]
+    pub(crate) fn rows_from(&self, instance: u32) -> &[Row]
+        requires { instance < 256 }
+        ensures { RowsFrom (config_of self.now) instance result.now }
+    {
+        let first = self.place_of(instance * 8192);
+        let end = self.place_of((instance + 1) * 8192);
+        &self.rows[first..end]
     }
 
     // An instance of the type, in its state 0.
