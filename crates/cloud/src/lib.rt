@@ -89,6 +89,10 @@ impl Survey for Cloud {
     fn bindings(&self) -> u32 {
         self.table.bindings()
     }
+
+    fn covers(&self, port: u32, requirer: u32) -> u32 {
+        self.table.covers(port, requirer)
+    }
 }
 
 impl Host for Cloud {
