@@ -8,3 +8,4 @@ pub mod Runs
 pub mod Counting
 pub mod Ranges
 pub mod CoverCounts
+pub mod Covering
