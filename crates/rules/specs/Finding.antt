@@ -1,14 +1,14 @@
 -- The search for the first gap, and what it tells.
-use Rattle.std.specs.Prelude.{◌≡◌, is_some, ℕ, ◌<◌, cond, Some, None, Option}
+use Rattle.std.specs.Prelude.{◌≡◌, is_some, ℕ, ◌<◌, Bool, cond, ◌&&◌, ◌||◌, Some, None, Option, nat_lt}
 use Rattle.model.specs.declared.order.Order.TheVariants.{Change, Unbind}
-use Rattle.model.specs.Search.{find_first}
+use Rattle.model.specs.Search.{find_first, one}
 use Rattle.model.specs.Universe.{Universe}
-use Rattle.model.specs.Config.{Config}
+use Rattle.model.specs.Config.{Config, provided}
 use Rattle.model.specs.Gaps.{Gap, GapFree}
 use Rattle.model.specs.Orders.{result_of}
 use Rattle.model.specs.Bounded.{gap_at, any_gap}
 use Rattle.rules.specs.declared.gaps.FoundGap.{FoundGap}
-use Rattle.hosts.specs.Survey.{Situation}
+use Rattle.hosts.specs.Survey.{Situation, covers_of}
 use Rattle.rules.specs.declared.gaps.Prospect.{Prospect}
 use Rattle.rules.specs.declared.gaps.View.{View}
 use Rattle.rules.specs.declared.gaps.Prospect.TheVariants.{Present, Changed, Unbound}
@@ -22,6 +22,22 @@ foreseen (Unbound b) c = result_of (Unbind b) c
 -- what would stand in a survey, where s tells what stands
 abbrev pub viewed : {S : Type 0} → (S → Situation) → View S → Situation
 viewed s v = record { universe = (s v.survey.now).universe; config = foreseen v.prospect (s v.survey.now).config }
+
+-- the provider whose bindings may come to cover, or cease to
+abbrev pub mover : Prospect → Option ℕ
+mover Present = None
+mover (Changed z q) = Some z
+mover (Unbound b) = Some b.provider
+
+-- x covers the port p of z
+abbrev pub does_cover : Universe → Config → ℕ → ℕ → ℕ → Bool
+does_cover u c p x z = provided u p (c.inst x) && c.bound p x z
+
+-- the port p of z would be covered, told by counts: the mover would cover it, or more than the mover cover it now
+abbrev pub covered_by_count : Option ℕ → Prospect → Situation → ℕ → ℕ → Bool
+covered_by_count None k s p z = nat_lt 0 (covers_of s p z)
+covered_by_count (Some x) k s p z =
+    does_cover s.universe (foreseen k s.config) p x z || nat_lt (one (does_cover s.universe s.config p x z)) (covers_of s p z)
 
 -- the gap of the instance z at the port p, if there is one
 abbrev pub gap_here : Universe → Config → ℕ → ℕ → Option FoundGap

@@ -1,15 +1,19 @@
-// The gap finder: the first gap in a survey, and the first that a change or an unbind would leave.
-ghost use Rattle.std.specs.Prelude.{◌≡◌, not, ◌&&◌};
+// The gap finder: the first gap in a survey, and whether a change or an unbind opens one.
+ghost use Rattle.std.specs.Prelude.{◌≡◌, ℕ, ◌&&◌};
+ghost use Rattle.model.specs.Search.{any};
+ghost use Rattle.model.specs.Config.{required};
 ghost use Rattle.model.specs.Bounded.{covered, gap_at};
-ghost use Rattle.rules.specs.declared.ports.Role.TheVariants.{Provider, Requirer};
-ghost use Rattle.rules.specs.Ports.{now_has};
-ghost use Rattle.rules.specs.Finding.{Finds, first_gap_at, foreseen, viewed};
-ghost use Rattle.rules.specs.Opening.{OpensAll, uncovers_at, uncovers, loses, opens};
+ghost use Rattle.universe.specs.Sets.{has};
+ghost use Rattle.rules.specs.Ports.{EntryOf, now_has};
+ghost use Rattle.rules.specs.Finding.{Finds, covered_by_count, does_cover, first_gap_at, foreseen, mover, viewed};
+ghost use Rattle.rules.specs.Opening.{Loses, OpensAll, after, alone, change_opens, lacks, opens, unbind_opens, uncovers};
 
-use crate::ports::{Role, has_port, ports};
+use crate::ports::{Role, has_port, ports, without};
 use hosts::survey::Survey;
 use model::binding::Binding;
 use model::pair::Pair;
+use universe::sets::Field;
+use universe::tables::State;
 
 // A gap: the instance, and the port that its state requires and nobody provides to it.
 #[derive(Clone, Copy, PartialEq, Eq, Debug)]
@@ -27,6 +31,13 @@ pub enum Prospect {
     Unbound(Binding),
 }
 
+// The entry of what does not stand: it does nothing with any port.
+const IDLE: State = State {
+    provided: 0,
+    required: 0,
+    successors: 0,
+};
+
 // A survey as it stands, or as it would stand.
 #[derive(Drop)]
 struct View<'a, S> {
@@ -35,6 +46,17 @@ struct View<'a, S> {
 }
 
 impl<S: Survey> View<'_, S> {
+    // The survey as it stands.
+    fn present(&self) -> View<'_, S>
+        ensures survey { result.survey.now ≡ self.now.survey.now }
+        ensures prospect { result.prospect ≡ Prospect.Present }
+    {
+        View {
+            survey: self.survey,
+            prospect: Prospect::Present,
+        }
+    }
+
     // What would stand under the number.
     #[tactic(auto, using(crate::proofs::Foreseeing::at_foreseen))]
     fn at(&self, instance: u32) -> Option<Pair>
@@ -80,22 +102,44 @@ impl<S: Survey> View<'_, S> {
 
     // Whether the provider of the binding would cover its port: it is in a state that provides it, and bound.
     fn does_cover(&self, binding: Binding) -> bool
-        ensures { result ≡ (now_has (viewed S.situation self.now).universe Provider binding.port ((viewed S.situation self.now).config.inst binding.provider) && (viewed S.situation self.now).config.bound binding.port binding.provider binding.requirer) }
+        ensures { result ≡ does_cover (viewed S.situation self.now).universe (viewed S.situation self.now).config binding.port binding.provider binding.requirer }
     {
         self.has_port(Role::Provider, binding.port, binding.provider) && self.is_bound(binding)
     }
 
+    // The provider whose bindings may come to cover, or cease to.
+    fn mover(&self) -> Option<u32>
+        ensures { result ≡ mover self.now.prospect }
+    {
+        match self.prospect {
+            Prospect::Present => None,
+            Prospect::Changed { instance, .. } => Some(instance),
+            Prospect::Unbound(binding) => Some(binding.provider),
+        }
+    }
+
+    // Whether the mover would cover the port of the instance, or more than the mover cover it now.
+    fn is_covered_by_count(&self, port: u32, instance: u32) -> bool
+        ensures { result ≡ covered_by_count (mover self.now.prospect) self.now.prospect (S.situation self.now.survey.now) port instance }
+    {
+        let covers = self.survey.covers(port, instance);
+        let Some(provider) = self.mover() else {
+            return covers > 0;
+        };
+        let binding = Binding {
+            port,
+            provider,
+            requirer: instance,
+        };
+        self.does_cover(binding) || covers > u32::from(self.present().does_cover(binding))
+    }
+
     // Whether some provider would cover the port of the instance.
+    #[tactic(auto, using(crate::proofs::Covered::count_covered))]
     fn is_covered(&self, port: u32, instance: u32) -> bool
         ensures { result ≡ covered 256 (viewed S.situation self.now).universe (viewed S.situation self.now).config instance port }
     {
-        (0..256).any(|provider| {
-            self.does_cover(Binding {
-                port,
-                provider,
-                requirer: instance,
-            })
-        })
+        self.is_covered_by_count(port, instance)
     }
 
     // Whether the instance would have a gap at the port.
@@ -116,60 +160,132 @@ impl<S: Survey> View<'_, S> {
             .map(|port| FoundGap { instance, port })
     }
 
-    // Whether the instance has the port to give, and would have it no more.
-    fn would_lose(&self, port: u32, instance: u32) -> bool
-        ensures { result ≡ loses (viewed S.situation self.now).universe (S.situation self.now.survey.now).config (viewed S.situation self.now).config instance port }
-    {
-        let now = View {
-            survey: self.survey,
-            prospect: Prospect::Present,
-        };
-        now.has_port(Role::Provider, port, instance)
-            && !self.has_port(Role::Provider, port, instance)
-    }
-
-    // Whether some instance that is bound to this one on the port would have a gap there.
-    fn would_uncover_at(&self, port: u32, instance: u32) -> bool
-        ensures { result ≡ uncovers_at (viewed S.situation self.now).universe (viewed S.situation self.now).config instance port }
-    {
-        (0..256).any(|requirer| {
-            self.has_port(Role::Requirer, port, requirer)
-                && self.is_bound(Binding {
-                    port,
-                    provider: instance,
-                    requirer,
-                })
-                && !self.is_covered(port, requirer)
-        })
-    }
-
-    // Whether the instance would lose a port that it has to give, and so leave a gap at one that is bound to it.
-    fn would_uncover(&self, instance: u32) -> bool
-        ensures { result ≡ uncovers (viewed S.situation self.now).universe (S.situation self.now.survey.now).config (viewed S.situation self.now).config instance }
-    {
-        (0..ports(self.survey)).any(|port| self.would_lose(port, instance)
-            && self.would_uncover_at(port, instance))
-    }
-
-    // Whether a gap would open, where what stands has none.
-    #[tactic(auto, unfolding(crate::specs::Opening::opens))]
-    fn opens_gap(&self) -> bool
-        ensures { result ≡ opens self.now.prospect (S.situation self.now.survey.now).universe (S.situation self.now.survey.now).config }
-    {
-        match self.prospect {
-            Prospect::Present => self.first_gap().is_some(),
-            Prospect::Changed { instance, .. } => {
-                self.first_gap_of(instance).is_some() || self.would_uncover(instance)
-            }
-            Prospect::Unbound(binding) => self.has_gap(binding.port, binding.requirer),
-        }
-    }
-
     // The first gap that there would be.
     fn first_gap(&self) -> Option<FoundGap>
         ensures { Finds (viewed S.situation self.now).universe (viewed S.situation self.now).config result }
     {
         (0..256).find_map(|instance| self.first_gap_of(instance))
+    }
+
+    // What the state of the instance would do with ports.
+    #[tactic(auto, using(crate::proofs::Entries::idle_entry, crate::proofs::Entries::told_entry))]
+    fn entry(&self, instance: u32) -> State
+        ensures { EntryOf (viewed S.situation self.now).universe ((viewed S.situation self.now).config.inst instance) result }
+    {
+        let Some(pair) = self.at(instance) else {
+            return IDLE;
+        };
+        self.survey
+            .universe()
+            .entry(u32::from(pair.kind), u32::from(pair.state))
+    }
+
+    // Whether the instance, of which this would be the entry, would lack the port.
+    fn would_lack_at(&self, instance: u32, entry: State, port: u32) -> bool
+        requires { EntryOf (viewed S.situation self.now).universe ((viewed S.situation self.now).config.inst instance) entry }
+        ensures { result ≡ lacks self.now.prospect (S.situation self.now.survey.now) instance port }
+    {
+        let own = Binding {
+            port,
+            provider: instance,
+            requirer: instance,
+        };
+        entry.required.has(port)
+            && self.survey.covers(port, instance) == 0
+            && !(entry.provided.has(port) && self.survey.is_bound(own))
+    }
+
+    // Whether the instance, of which this would be the entry, would lack some port.
+    fn would_lack(&self, instance: u32, entry: State) -> bool
+        requires { EntryOf (viewed S.situation self.now).universe ((viewed S.situation self.now).config.inst instance) entry }
+        ensures { result ≡ any (lacks self.now.prospect (S.situation self.now.survey.now) instance) (S.situation self.now.survey.now).universe.ports }
+    {
+        (0..ports(self.survey)).any(|port| self.would_lack_at(instance, entry, port))
+    }
+
+    // Whether the provider of the binding alone covers the port of the requirer now.
+    fn is_alone(&self, binding: Binding) -> bool
+        ensures { result ≡ alone (S.situation self.now.survey.now) binding.port binding.provider binding.requirer }
+    {
+        self.survey.covers(binding.port, binding.requirer) == 1 && self.survey.is_bound(binding)
+    }
+
+    // Whether the provider alone covers a port of the set for the requirer now.
+    fn is_alone_in(&self, set: u32, provider: u32, requirer: u32) -> bool
+        ensures { result ≡ any (λ p. has 32 set p && alone (S.situation self.now.survey.now) p provider requirer) (S.situation self.now.survey.now).universe.ports }
+    {
+        set != 0
+            && (0..ports(self.survey)).any(|port| {
+                set.has(port)
+                    && self.is_alone(Binding {
+                        port,
+                        provider,
+                        requirer,
+                    })
+            })
+    }
+
+    // Those ports of the set that the instance would require.
+    #[tactic(auto, using(crate::proofs::Masks::has_and))]
+    fn required_in(&self, set: u32, instance: u32) -> u32
+        ensures { (p : ℕ) → has 32 result p ≡ (required (S.situation self.now.survey.now).universe p (after self.now.prospect (S.situation self.now.survey.now) instance) && has 32 set p) }
+    {
+        self.entry(instance).required & set
+    }
+
+    // Whether the instance, which would lose these ports, would uncover one of the requirer.
+    #[tactic(auto, using(crate::proofs::Losing::uncovers_any))]
+    fn would_uncover_at(&self, instance: u32, lost: u32, requirer: u32) -> bool
+        requires { Loses self.now.prospect (S.situation self.now.survey.now) instance lost }
+        ensures { result ≡ any (uncovers self.now.prospect (S.situation self.now.survey.now) instance requirer) (S.situation self.now.survey.now).universe.ports }
+    {
+        self.is_alone_in(self.required_in(lost, requirer), instance, requirer)
+    }
+
+    // Whether the instance, which would lose these ports, would uncover one of some instance.
+    fn would_uncover(&self, instance: u32, lost: u32) -> bool
+        requires { Loses self.now.prospect (S.situation self.now.survey.now) instance lost }
+        ensures { result ≡ any (λ y. any (uncovers self.now.prospect (S.situation self.now.survey.now) instance y) (S.situation self.now.survey.now).universe.ports) 256 }
+    {
+        lost != 0 && (0..256).any(|requirer| self.would_uncover_at(instance, lost, requirer))
+    }
+
+    // The ports that the instance would lose.
+    fn lost(&self, instance: u32, entry: State) -> u32
+        requires { EntryOf (viewed S.situation self.now).universe ((viewed S.situation self.now).config.inst instance) entry }
+        ensures { Loses self.now.prospect (S.situation self.now.survey.now) instance result }
+    {
+        without(self.present().entry(instance).provided, entry.provided)
+    }
+
+    // Whether the change of the instance would open a gap.
+    fn would_change_open(&self, instance: u32) -> bool
+        ensures { result ≡ change_opens self.now.prospect (S.situation self.now.survey.now) instance }
+    {
+        let entry = self.entry(instance);
+        self.would_lack(instance, entry) || self.would_uncover(instance, self.lost(instance, entry))
+    }
+
+    // Whether the end of the binding would open a gap.
+    fn would_unbind_open(&self, binding: Binding) -> bool
+        ensures { result ≡ unbind_opens (S.situation self.now.survey.now) binding }
+    {
+        let present = self.present();
+        let provides = present.has_port(Role::Provider, binding.port, binding.provider);
+        present.has_port(Role::Requirer, binding.port, binding.requirer)
+            && self.survey.covers(binding.port, binding.requirer) == u32::from(provides)
+    }
+
+    // Whether a gap would open, where what stands has none.
+    #[tactic(auto, unfolding(crate::specs::Opening::opens))]
+    fn opens_gap(&self) -> bool
+        ensures { result ≡ opens self.now.prospect (S.situation self.now.survey.now) }
+    {
+        match self.prospect {
+            Prospect::Present => self.first_gap().is_some(),
+            Prospect::Changed { instance, .. } => self.would_change_open(instance),
+            Prospect::Unbound(binding) => self.would_unbind_open(binding),
+        }
     }
 }
 
@@ -180,11 +296,11 @@ pub fn find_gap<S: Survey>(survey: &S, prospect: Prospect) -> Option<FoundGap>
     View { survey, prospect }.first_gap()
 }
 
-// Whether what is foreseen opens a gap. It looks only where the order can open one, and takes what stands to be gap-free;
-// so it is quicker than the search for the first gap.
+// Whether what is foreseen opens a gap. It counts what covers each port that the order may uncover, and takes what stands
+// to be gap-free; so it is quicker than the search for the first gap.
 #[tactic(auto, using(crate::proofs::Opened::opens_all))]
 pub fn opens_gap<S: Survey>(survey: &S, prospect: Prospect) -> bool
-    ensures value { result ≡ opens prospect (S.situation survey.now).universe (S.situation survey.now).config }
+    ensures value { result ≡ opens prospect (S.situation survey.now) }
     ensures all { OpensAll (S.situation survey.now) prospect result }
 {
     View { survey, prospect }.opens_gap()

@@ -1,7 +1,8 @@
 // What states do with a port.
-ghost use Rattle.std.specs.Prelude.{◌≡◌};
+ghost use Rattle.std.specs.Prelude.{◌≡◌, ℕ, not, ◌&&◌};
 ghost use Rattle.model.specs.Search.{any};
 ghost use Rattle.universe.specs.Held.{universe_in};
+ghost use Rattle.universe.specs.Sets.{has};
 ghost use Rattle.rules.specs.Ports.{ever_has, holds_port};
 
 use hosts::survey::Survey;
@@ -45,4 +46,12 @@ pub fn ports<S: Survey>(survey: &S) -> u32
     ensures { result ≡ (S.situation survey.now).universe.ports }
 {
     u32::from(survey.universe().ports())
+}
+
+// The numbers that are in the one packed set and not in the other.
+#[tactic(auto, using(crate::proofs::Masks::has_without))]
+pub fn without(set: u32, other: u32) -> u32
+    ensures { (p : ℕ) → has 32 result p ≡ (has 32 set p && not (has 32 other p)) }
+{
+    set & !other
 }

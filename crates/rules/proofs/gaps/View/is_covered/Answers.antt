@@ -1,8 +1,0 @@
-use Rattle.std.proofs.Common.{refl, rules}
-use Rattle.model.specs.Bounded.{covered}
-use Rattle.model.proofs.Ranges.{any_over}
-use Rattle.rules.proofs.gaps.View.is_covered.Goals as goal
-
-pub returns : goal.returns
-unfolding covered
-returns g c = any_over _ _ _ _ _ _ refl refl c.any.ensures.ran (λ x q k. search rules) (λ x q k. search rules)
