@@ -154,6 +154,10 @@ impl<B: Host> Survey for Verifying<B> {
     fn bindings(&self) -> u32 {
         self.below.bindings()
     }
+
+    fn covers(&self, port: u32, requirer: u32) -> u32 {
+        self.below.covers(port, requirer)
+    }
 }
 
 impl<B: Host> Host for Verifying<B> {
