@@ -1,44 +1,17 @@
 -- How the number of bindings that cover a port moves under orders: only the term of one provider does. Assumes nothing.
-use Rattle.std.proofs.Common.{◌≡◌, ℕ, zero, suc, ◌+◌, ◌<◌, ◌≤◌, Bool, true, false, not, ◌&&◌, ◌||◌, ◌≢◌, Some, refl, sym, ap, ◌∙◌, inl, inr, arith}
+use Rattle.std.proofs.Common.{◌≡◌, ℕ, ◌+◌, ◌<◌, ◌≤◌, Bool, true, false, not, ◌&&◌, ◌||◌, ◌≢◌, Some, refl, sym, ◌∙◌, arith}
 use mathlib.Core.Bool.{and-false, and-true, false≢true, or-false}
-use Rattle.std.proofs.lemmas.Bool.{cases_lt, eq-eqb}
+use Rattle.std.proofs.lemmas.Bool.{eq-eqb}
 use Rattle.model.specs.declared.binding.Binding.{Binding}
 use Rattle.model.specs.declared.order.Order.TheVariants.{Create, Bind, Change, Unbind, Delete}
-use Rattle.model.specs.Search.{sum_below, one}
+use Rattle.model.specs.Search.{one}
 use Rattle.model.specs.Universe.{Universe}
 use Rattle.model.specs.Config.{Config, moved, pair, provided}
 use Rattle.model.specs.Orders.{result_of, same}
 use Rattle.model.specs.Bounded.{covers}
 use Rattle.model.proofs.Results.{create_at, create_off, create_bound, bind_bound, bind_inst, change_at, change_off, change_bound, unbind_bound, unbind_inst, delete_at, delete_bound, delete_bound_off, delete_off, same_true, same_false}
-use Rattle.model.proofs.Sums.{sum_most, sum_none, sum_same_below}
-
-module _ (f g : ℕ → ℕ) where
-  -- one term moves, and the sum by as much
-  pub sum_one_moves : (k n : ℕ) → k < n → ((y : ℕ) → y ≢ k → g y ≡ f y) → sum_below g n + f k ≡ sum_below f n + g k
-  unfolding sum_below
-  sum_one_moves k zero l h = absurd (omega arith)
-  sum_one_moves k (suc n) l h =
-      elim (cases_lt k n) [
-        | inl lt ↦ let before = sum_one_moves k n lt h in let here = h n (omega arith) in omega arith
-        | inr ge ↦
-            let same : k ≡ n = omega arith in
-            let before = sum_same_below f g n (λ y m. h y (omega arith)) in
-            rw same (omega (arith, before))
-      ]
-
--- no term is more than the sum
-pub sum_above : (f : ℕ → ℕ) (k n : ℕ) → k < n → f k ≤ sum_below f n
-unfolding sum_below
-sum_above f k zero l = absurd (omega arith)
-sum_above f k (suc n) l =
-    elim (cases_lt k n) [
-      | inl lt ↦ let before = sum_above f k n lt in omega arith
-      | inr ge ↦ let same : k ≡ n = omega arith in rw same (omega arith)
-    ]
-
--- the provider x covers the port p of z
-abbrev pub covers_by : Universe → Config → ℕ → ℕ → ℕ → Bool
-covers_by u c z p x = c.bound p x z && provided u p (c.inst x)
+use Rattle.model.proofs.Sums.{sum_above, sum_most, sum_none}
+use Rattle.model.proofs.Covering.{covering, covers_moved}
 
 -- the binding j is on the port p to z, and its provider is in a state that provides the port
 abbrev pub serves : Universe → Config → Binding → ℕ → ℕ → Bool
@@ -66,47 +39,41 @@ module _ (n : ℕ) (u : Universe) where
   -- the count is at most n, and at least one where some provider below n covers
   pub covers_most : (c : Config) (z p : ℕ) → covers n u c z p ≤ n
   unfolding covers
-  covers_most c z p = sum_most (covers_by u c z p) n
+  covers_most c z p = sum_most (covering u c z p) n
 
-  pub covers_least : (c : Config) (z p x : ℕ) → x < n → one (covers_by u c z p x) ≤ covers n u c z p
+  pub covers_least : (c : Config) (z p x : ℕ) → x < n → one (covering u c z p x) ≤ covers n u c z p
   unfolding covers
-  covers_least c z p x low = sum_above (λ x. one (covers_by u c z p x)) x n low
+  covers_least c z p x low = sum_above (λ x. one (covering u c z p x)) x n low
 
   -- no provider covers
   pub covers_none : (c : Config) (z p : ℕ) → ((x : ℕ) → c.bound p x z ≡ false) → covers n u c z p ≡ 0
   unfolding covers
   covers_none c z p h = sum_none _ n (λ x. rw (h x))
 
-  -- two configurations in which the same providers cover the port, but for x: the counts differ by what x does
-  pub covers_one_moves : (c d : Config) (z p x : ℕ) → x < n → ((y : ℕ) → y ≢ x → covers_by u d z p y ≡ covers_by u c z p y) →
-      covers n u d z p + one (covers_by u c z p x) ≡ covers n u c z p + one (covers_by u d z p x)
-  unfolding covers
-  covers_one_moves c d z p x low h = sum_one_moves (λ x. one (covers_by u c z p x)) (λ x. one (covers_by u d z p x)) x n low (λ y ne. ap one (h y ne))
-
   -- orders at the instance x
   module _ (c : Config) (z p x : ℕ) (low : x < n) where
     -- a create: what x is a provider of, if anything, it covers by its state 0
     pub create_covers : (t : ℕ) →
-        covers n u (result_of (Create x t) c) z p + one (covers_by u c z p x) ≡ covers n u c z p + one (c.bound p x z && provided u p (Some (pair t 0)))
+        covers n u (result_of (Create x t) c) z p + one (covering u c z p x) ≡ covers n u c z p + one (c.bound p x z && provided u p (Some (pair t 0)))
     create_covers t =
         let d = result_of (Create x t) c in
         (rw (create_bound c x t p x z, create_at c x t) at
-        (covers_one_moves c d z p x low (λ y ne. rw (create_bound c x t p y z, create_off c x t y ne) refl)))
+        (covers_moved n u c d z p x low (λ y ne. rw (create_bound c x t p y z, create_off c x t y ne) refl)))
 
     -- a change: what x is a provider of it covers by its new state
     pub change_covers : (q : ℕ) →
-        covers n u (result_of (Change x q) c) z p + one (covers_by u c z p x) ≡ covers n u c z p + one (c.bound p x z && provided u p (moved (c.inst x) q))
+        covers n u (result_of (Change x q) c) z p + one (covering u c z p x) ≡ covers n u c z p + one (c.bound p x z && provided u p (moved (c.inst x) q))
     change_covers q =
         let d = result_of (Change x q) c in
         (rw (change_bound c x q p x z, change_at c x q) at
-        (covers_one_moves c d z p x low (λ y ne. rw (change_bound c x q p y z, change_off c x q y ne) refl)))
+        (covers_moved n u c d z p x low (λ y ne. rw (change_bound c x q p y z, change_off c x q y ne) refl)))
 
     -- a delete: what x is a provider of, if anything, it covers no more
-    pub delete_covers : z ≢ x → covers n u (result_of (Delete x) c) z p + one (covers_by u c z p x) ≡ covers n u c z p
+    pub delete_covers : z ≢ x → covers n u (result_of (Delete x) c) z p + one (covering u c z p x) ≡ covers n u c z p
     delete_covers other =
         let d = result_of (Delete x) c in
         let e = rw (delete_bound_off c x p x z other, delete_at c x, and-false (c.bound p x z)) at
-        (covers_one_moves c d z p x low (λ y ne. rw (delete_bound_off c x p y z other, delete_off c x y ne) refl)) in
+        (covers_moved n u c d z p x low (λ y ne. rw (delete_bound_off c x p y z other, delete_off c x y ne) refl)) in
         omega (arith, e)
 
   -- a delete: nothing covers a port of what is no more
@@ -126,7 +93,7 @@ module _ (n : ℕ) (u : Universe) where
     pub bind_covers : c.bound j.port j.provider j.requirer ≡ false → covers n u (result_of (Bind j) c) z p ≡ covers n u c z p + one (serves u c j z p)
     bind_covers new =
         let d = result_of (Bind j) c in
-        let e = covers_one_moves c d z p j.provider low (λ y ne. rw (bind_bound c j p y z, apart y ne, or-false (c.bound p y z), bind_inst c j y) refl) in
+        let e = covers_moved n u c d z p j.provider low (λ y ne. rw (bind_bound c j p y z, apart y ne, or-false (c.bound p y z), bind_inst c j y) refl) in
         let f = rw (bind_bound c j p j.provider z, bind_inst c j j.provider) at e in
         let g = one_either (c.bound p j.provider z) (same j.port j.provider j.requirer p j.provider z) (provided u p (c.inst j.provider))
         (λ h s. false≢true (sym new ∙ sym (is s) ∙ h)) in
@@ -136,7 +103,7 @@ module _ (n : ℕ) (u : Universe) where
     pub unbind_covers : c.bound j.port j.provider j.requirer ≡ true → covers n u (result_of (Unbind j) c) z p + one (serves u c j z p) ≡ covers n u c z p
     unbind_covers was =
         let d = result_of (Unbind j) c in
-        let e = covers_one_moves c d z p j.provider low (λ y ne. rw (unbind_bound c j p y z, apart y ne, unbind_inst c j y, and-true (c.bound p y z)) refl) in
+        let e = covers_moved n u c d z p j.provider low (λ y ne. rw (unbind_bound c j p y z, apart y ne, unbind_inst c j y, and-true (c.bound p y z)) refl) in
         let f = rw (unbind_bound c j p j.provider z, unbind_inst c j j.provider) at e in
         let g = one_parted (c.bound p j.provider z) (same j.port j.provider j.requirer p j.provider z) (provided u p (c.inst j.provider))
         (λ s. is s ∙ was) in

@@ -1,24 +1,11 @@
 -- How many bindings cover a port: none exactly if it is not covered, and how the count moves with one provider. Assumes nothing.
-use Rattle.std.proofs.Common.{◌≡◌, ℕ, zero, suc, ◌+◌, ◌<◌, Bool, true, false, ◌&&◌, ◌||◌, ltb, ◌≢◌, refl, inl, inr, arith}
-use Rattle.std.proofs.lemmas.Bool.{cases_lt, lt-ltb}
+use Rattle.std.proofs.Common.{◌≡◌, ℕ, zero, suc, ◌+◌, ◌<◌, Bool, true, false, ◌&&◌, ◌||◌, ltb, ◌≢◌, refl, arith}
+use Rattle.std.proofs.lemmas.Bool.{lt-ltb}
 use Rattle.model.specs.Search.{any, one, sum_below}
 use Rattle.model.specs.Universe.{Universe}
 use Rattle.model.specs.Config.{Config, provided}
 use Rattle.model.specs.Bounded.{covered, covers}
-use Rattle.model.proofs.Sums.{sum_same_below}
-
--- one term is another, and the others stay
-sum_moved : (f g : ℕ → ℕ) (k n : ℕ) → k < n → ((y : ℕ) → y ≢ k → g y ≡ f y) → sum_below g n + f k ≡ sum_below f n + g k
-unfolding sum_below
-sum_moved f g k zero l h = absurd (omega arith)
-sum_moved f g k (suc n) l h =
-    elim (cases_lt k n) [
-      | inl lt ↦ let before = sum_moved f g k n lt h in let here = h n (omega arith) in omega arith
-      | inr ge ↦
-          let same : k ≡ n = omega arith in
-          let before = sum_same_below f g n (λ y m. h y (omega arith)) in
-          rw same (omega arith)
-    ]
+use Rattle.model.proofs.Sums.{sum_moved, sum_same_below}
 
 -- the number of those that pass is not 0 exactly if some number passes
 some_more : (s : ℕ) (a b : Bool) → a ≡ ltb 0 s → (a || b) ≡ ltb 0 (s + one b)

@@ -7,5 +7,5 @@ pub mod GapSearch
 pub mod Runs
 pub mod Counting
 pub mod Ranges
-pub mod CoverCounts
 pub mod Covering
+pub mod CoverCounts

@@ -30,6 +30,19 @@ module _ (f g : ℕ → ℕ) where
             omega arith
       ]
 
+  -- one term moves, and the sum by as much
+  pub sum_moved : (k n : ℕ) → k < n → ((y : ℕ) → y ≢ k → g y ≡ f y) → sum_below g n + f k ≡ sum_below f n + g k
+  unfolding sum_below
+  sum_moved k zero l h = absurd (omega arith)
+  sum_moved k (suc n) l h =
+      elim (cases_lt k n) [
+        | inl lt ↦ let before = sum_moved k n lt h in let here = h n (omega arith) in omega arith
+        | inr ge ↦
+            let same : k ≡ n = omega arith in
+            let before = sum_same_below n (λ y m. h y (omega arith)) in
+            rw same (omega (arith, before))
+      ]
+
   -- no term is more, nor is the sum
   pub sum_le : (n : ℕ) → ((y : ℕ) → g y ≤ f y) → sum_below g n ≤ sum_below f n
   unfolding sum_below
@@ -55,3 +68,13 @@ pub one_less : (a b : Bool) → one (a && b) ≤ one a
 one_less true true = omega arith
 one_less true false = omega arith
 one_less false b = omega arith
+
+-- no term is more than the sum
+pub sum_above : (f : ℕ → ℕ) (k n : ℕ) → k < n → f k ≤ sum_below f n
+unfolding sum_below
+sum_above f k zero l = absurd (omega arith)
+sum_above f k (suc n) l =
+    elim (cases_lt k n) [
+      | inl lt ↦ let before = sum_above f k n lt in omega arith
+      | inr ge ↦ let same : k ≡ n = omega arith in rw same (omega arith)
+    ]
