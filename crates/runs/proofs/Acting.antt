@@ -13,7 +13,7 @@ use Rattle.runs.specs.Promise.{actions_of, answers_of}
 
 module _ {H : Type 0} (s : H → Situation) (v : H → Service) (does : Order → H → H → Answer → Type 0) (xs : List ℕ) where
   -- one step more at the end
-  takes_more : (a b c : Running H) (rs : List (Result (Unit {0}) StepFault)) (r : Result (Unit {0}) StepFault) →
+  pub takes_more : (a b c : Running H) (rs : List (Result (Unit {0}) StepFault)) (r : Result (Unit {0}) StepFault) →
       TakesAll s v does xs a rs b → Takes s v does (order_at xs b.place) b r c → TakesAll s v does xs a (rs ++ r ∷ []) c
   unfolding TakesAll
   takes_more a b c [] r h t = (c, rw h at t, refl)

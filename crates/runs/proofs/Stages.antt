@@ -20,12 +20,12 @@ use Rattle.runs.specs.declared.request.Act.{Act}
 use Rattle.runs.specs.Taken.{Acted, RanOver}
 
 -- a plan has the lines of the draft
-plan_lines : (d : Draft) (r : Result (Unit {0}) CheckRefusal) (p : CheckedPlan) → plan_of d r ≡ Ok p → p ≡ record { lines = d.lines }
+pub plan_lines : (d : Draft) (r : Result (Unit {0}) CheckRefusal) (p : CheckedPlan) → plan_of d r ≡ Ok p → p ≡ record { lines = d.lines }
 plan_lines d (Ok x) p e = cc
 plan_lines d (Err x) p e = never cc
 
 -- what is started stands at its first line, with nothing on its ticket
-first_line : (b : Bool) (p : CheckedPlan) (x : RunningPlan × Ticket) →
+pub first_line : (b : Bool) (p : CheckedPlan) (x : RunningPlan × Ticket) →
     cond {A = Result (RunningPlan × Ticket) StartRefusal} b (Ok (first_stage p)) (Err NotEmpty) ≡ Ok x → x ≡ first_stage p
 first_line true p x e = cc
 first_line false p x e = never cc
