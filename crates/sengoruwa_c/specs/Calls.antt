@@ -28,7 +28,7 @@ tables_held (Err e) = Err e
 
 -- the list afterwards: what is told of the universe that was read, and behind that what the list held
 abbrev pub entries_left : Read Tables → List ℕ → List ℕ
-entries_left (Ok t) xs = filled (entry_number t) 402 xs
+entries_left (Ok t) xs = filled (entry_number (universe_of t)) 402 xs
 entries_left (Err e) xs = xs
 
 -- the list afterwards, as planning leaves it

@@ -1,28 +1,40 @@
 -- The numbers that tell of a universe, of what stands, and of a step.
-use Rattle.std.specs.Prelude.{ℕ, ◌+◌, ◌-◌, ◌*◌, ◌/◌, ◌%◌, if◌then◌else◌, Some, None, Ok, Err, Option, Result, ◌==◌, nat_lt}
+use Rattle.std.specs.Prelude.{◌≡◌, ℕ, ◌<◌, ◌+◌, ◌-◌, ◌*◌, ◌/◌, ◌%◌, if◌then◌else◌, Some, None, Ok, Err, Option, Result, ◌==◌, nat_lt}
 use Rattle.model.specs.declared.pair.Pair.{Pair}
+use Rattle.model.specs.Universe.{Universe}
 use Rattle.universe.specs.declared.tables.State.{State}
-use Rattle.universe.specs.declared.tables.Tables.{Tables}
-use Rattle.universe.specs.Tables.{entry_at, kind_at}
+use Rattle.universe.specs.Packed.{entry_of}
+use Rattle.universe.specs.Sets.{field}
 use Rattle.hosts.specs.Refusals.{reason_number}
 use Rattle.executor.specs.declared.fault.StepFault.{StepFault}
 use Rattle.executor.specs.declared.fault.StepFault.TheVariants.{NoLine, Refused}
 
--- the set k of a state: provided, required, successors
+-- the set i of a state: provided, required, successors
 abbrev pub set_of : State → ℕ → ℕ
-set_of s k = if k == 0 then s.provided else (if k == 1 then s.required else s.successors)
+set_of s i = if i == 0 then s.provided else (if i == 1 then s.required else s.successors)
 
--- the number at a place of the sets of the states: three for each of the eight states of each type
-abbrev pub set_number : Tables → ℕ → ℕ
-set_number t place = set_of (entry_at t (place / 24) (place / 3 % 8)) (place % 3)
+-- the number at a place of the packed sets of the states: three for each of the eight states of each type, empty where there
+-- is no such state
+abbrev pub set_number : Universe → ℕ → ℕ
+set_number u place = set_of (entry_of u (place / 24) (place / 3 % 8)) (place % 3)
 
 -- the number at a place of what is told of a universe: its types, its ports, the states of each of 16 types, then the sets
-abbrev pub entry_number : Tables → ℕ → ℕ
-entry_number t place =
-    if place == 0 then t.types
-    else (if place == 1 then t.ports
-    else (if nat_lt place 18 then (kind_at t (place - 2)).count
-    else set_number t (place - 18)))
+abbrev pub entry_number : Universe → ℕ → ℕ
+entry_number u place =
+    if place == 0 then u.types
+    else (if place == 1 then u.ports
+    else (if nat_lt place 18 then u.states (place - 2)
+    else set_number u (place - 18)))
+
+-- so the sets of the state q of the type t stand from 18 + 3 × (8 × t + q) on, each packed with its first number as the
+-- highest bit
+abbrev pub PlacesLaw : Type 0
+PlacesLaw =
+    (u : Universe) (t q : ℕ) → q < 8 →
+    let place = 18 + 3 * (8 * t + q) in
+    (entry_number u place ≡ field 32 (u.provides t q)) ×
+    (entry_number u (place + 1) ≡ field 32 (u.requires t q)) ×
+    (entry_number u (place + 2) ≡ field 8 (u.next t q))
 
 -- what stands under a number: 0 for nothing
 abbrev pub standing_number : Option Pair → ℕ

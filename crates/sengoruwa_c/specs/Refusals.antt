@@ -1,5 +1,5 @@
 -- What the calls answer, and the numbers that tell of it.
-use Rattle.std.specs.Prelude.{ℕ, List, length, Ok, Err, Result}
+use Rattle.std.specs.Prelude.{◌≡◌, ℕ, List, Ok, Err, Result}
 use Rattle.model.specs.Config.{empty}
 use Rattle.universe.specs.declared.refusal.UniverseRefusal.{UniverseRefusal}
 use Rattle.universe.specs.declared.tables.Tables.{Tables}
@@ -98,3 +98,7 @@ judged_in r xs = and_then (by_file r) (λ t. by_draft (judged (universe_of t) xs
 -- the draft is checked against a fresh host of the universe that was read
 abbrev pub ran_in : Read Tables → List ℕ → Result (Unit {0}) Refused
 ran_in r xs = and_then (by_file r) (λ t. by_draft (lines_checked (situation (universe_of t) empty) xs))
+
+-- a run is refused just as the check refuses the draft
+abbrev pub RefusedAsChecked : Read Tables → List ℕ → Type 0
+RefusedAsChecked r xs = ran_in r xs ≡ judged_in r xs

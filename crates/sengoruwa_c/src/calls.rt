@@ -42,12 +42,7 @@ pub fn entries_of_file(file: &[u8], entries: &mut [u32]) -> Result<(), Refused>
 }
 
 // Reads the universe and plans the goal into the list, and writes how many lines there are.
-pub fn plan_file(
-    file: &[u8],
-    goal: &[u8],
-    list: &mut [u32],
-    lines: &mut u64,
-) -> Result<(), Refused>
+pub fn plan_file(file: &[u8], goal: &[u8], list: &mut [u32], lines: &mut u64) -> Result<(), Refused>
     ensures answer { result ≡ done_of (planned_in (tables_read file.now) goal.now (length list.old)) }
     ensures list { list.new ≡ list_left (tables_read file.now) goal.now list.old }
     ensures lines { lines.new ≡ lines_left (planned_in (tables_read file.now) goal.now (length list.old)) lines.old }

@@ -1,5 +1,6 @@
 // Numbers written into a caller's list, as far as it has places.
 ghost use Rattle.std.specs.Prelude.{◌≡◌};
+ghost use Rattle.universe.specs.Held.{universe_in};
 ghost use Rattle.sengoruwa_c.specs.Filled.{filled};
 ghost use Rattle.sengoruwa_c.specs.Numbers.{entry_number as entry_number_of, standing_number as standing_number_of};
 
@@ -9,7 +10,7 @@ use universe::held::Universe;
 
 // Writes what is told of the universe.
 pub fn fill_entries(universe: &Universe, entries: &mut [u32])
-    ensures { entries.new ≡ filled (entry_number_of universe.now.tables) 402 entries.old }
+    ensures { entries.new ≡ filled (entry_number_of (universe_in universe.now)) 402 entries.old }
 {
     for place in 0..entries.len().min(402) {
         // `as`: there are few places.

@@ -1,10 +1,12 @@
 // The library for callers in C: reading a universe, planning, checking, and a run on a simulated cloud. No memory is
-// allocated, and nothing is kept from call to call. A slice passes as a pointer and then a length.
+// allocated, and nothing is kept from call to call. A slice passes as a pointer and then a length. No pointer is null, also
+// where its length is 0, and what a call writes to overlaps nothing else that it is passed.
 #![tactic(auto)]
 
 ghost use Rattle.std.specs.Prelude.{◌≡◌, length};
 ghost use Rattle.universe.specs.Reading.{tables_read};
-ghost use Rattle.sengoruwa_c.specs.Refusals.{fault_told, judged_in, number_told, planned_in, ran_in, read_in};
+ghost use Rattle.sengoruwa_c.specs.Refusals.{RefusedAsChecked, fault_told, judged_in, number_told, planned_in, ran_in, read_in};
+ghost use Rattle.sengoruwa_c.specs.Numbers.{PlacesLaw};
 ghost use Rattle.sengoruwa_c.specs.Calls.{RunTold, entries_left, lines_left, list_left};
 
 mod calls;
@@ -23,18 +25,14 @@ use crate::refusal::{fault_of, number_of};
 pub extern "C" fn sengoruwa_read(file: &[u8], entries: &mut [u32]) -> u32
     ensures answer { result ≡ number_told (read_in (tables_read file.now)) }
     ensures entries { entries.new ≡ entries_left (tables_read file.now) entries.old }
+    ensures places { PlacesLaw }
 {
     number_of(entries_of_file(file, entries))
 }
 
 // Plans the goal in the file's universe into the list, and writes how many lines there are.
 #[unsafe(no_mangle)]
-pub extern "C" fn sengoruwa_plan(
-    file: &[u8],
-    goal: &[u8],
-    list: &mut [u32],
-    lines: &mut u64,
-) -> u32
+pub extern "C" fn sengoruwa_plan(file: &[u8], goal: &[u8], list: &mut [u32], lines: &mut u64) -> u32
     ensures answer { result ≡ number_told (planned_in (tables_read file.now) goal.now (length list.old)) }
     ensures list { list.new ≡ list_left (tables_read file.now) goal.now list.old }
     ensures lines { lines.new ≡ lines_left (planned_in (tables_read file.now) goal.now (length list.old)) lines.old }
@@ -66,6 +64,7 @@ pub extern "C" fn sengoruwa_run(
     ended: &mut Ended,
 ) -> u32
     ensures answer { result ≡ number_told (ran_in (tables_read file.now) lines.now) }
+    ensures as_checked { RefusedAsChecked (tables_read file.now) lines.now }
     ensures fault { fault.new ≡ fault_told (ran_in (tables_read file.now) lines.now) }
     ensures run { RunTold (ran_in (tables_read file.now) lines.now) (tables_read file.now) settings.now lines.now answers.old answers.new standing.old standing.new ended.new }
 {

@@ -1,5 +1,6 @@
 // The numbers that tell of a universe, of what stands, and of a step.
 ghost use Rattle.std.specs.Prelude.{◌≡◌};
+ghost use Rattle.universe.specs.Held.{universe_in};
 ghost use Rattle.sengoruwa_c.specs.Numbers.{entry_number, set_number, standing_number, step_number};
 
 use executor::fault::StepFault;
@@ -7,9 +8,9 @@ use model::pair::Pair;
 use universe::held::Universe;
 
 // The number at a place of the sets of a universe's states: provided, required and successors of each of the eight states
-// of each type, 0 where there is no such state.
+// of each type.
 fn set_number(universe: &Universe, place: u32) -> u32
-    ensures { result ≡ set_number universe.now.tables place }
+    ensures { result ≡ set_number (universe_in universe.now) place }
 {
     let state = universe.entry(place / 24, place / 3 % 8);
     match place % 3 {
@@ -21,7 +22,7 @@ fn set_number(universe: &Universe, place: u32) -> u32
 
 // The number at a place of what is told of a universe: its types, its ports, the states of each of 16 types, then the sets.
 pub fn entry_number(universe: &Universe, place: u32) -> u32
-    ensures { result ≡ entry_number universe.now.tables place }
+    ensures { result ≡ entry_number (universe_in universe.now) place }
 {
     match place {
         0 => u32::from(universe.types()),
