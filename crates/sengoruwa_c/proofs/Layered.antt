@@ -1,5 +1,5 @@
 -- Runs on a fresh cloud by the number of layers. Assumes nothing.
-use Rattle.std.proofs.Common.{◌≡◌, ℕ, ◌<◌, ◌≤◌, List, IfOk, Result, ap, arith}
+use Rattle.std.proofs.Common.{◌≡◌, ℕ, List, IfOk, Result, ap, arith}
 use Rattle.std.proofs.lemmas.Result.{IfOk-weaker}
 use Rattle.model.specs.declared.order.Order.{Order}
 use Rattle.model.specs.Universe.{Universe}

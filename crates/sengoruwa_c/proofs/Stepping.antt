@@ -1,5 +1,5 @@
 -- Steps are taken one after the other, and their answers written as numbers. Assumes nothing.
-use Rattle.std.proofs.Common.{◌≡◌, ℕ, ◌+◌, ◌<◌, List, [], ◌∷◌, ◌++◌, length, map, take, set, Result, refl, sym, ap, ◌∙◌, arith}
+use Rattle.std.proofs.Common.{◌≡◌, ℕ, ◌+◌, ◌<◌, List, [], ◌∷◌, ◌++◌, length, map, take, set, Result, refl, sym, ap, ◌∙◌}
 use Rattle.std.proofs.lemmas.List.{length-append, map-append, take_more_set}
 use Rattle.std.proofs.Math.Seq.{take-length}
 use Rattle.model.specs.declared.order.Order.{Order}

@@ -1,5 +1,5 @@
 -- What is told of a universe, and of a draft that is refused. Assumes nothing.
-use Rattle.std.proofs.Common.{◌≡◌, ℕ, ◌+◌, ◌-◌, ◌*◌, ◌/◌, ◌%◌, ◌^◌, ◌<◌, ◌≤◌, ◌≢◌, Bool, true, List, Ok, Err, refl, sym, ap, ◌∙◌, arith}
+use Rattle.std.proofs.Common.{◌≡◌, ℕ, ◌+◌, ◌-◌, ◌*◌, ◌/◌, ◌%◌, ◌^◌, ◌<◌, ◌≤◌, ◌≢◌, true, List, Ok, Err, refl, sym, ap, ◌∙◌, arith}
 use Rattle.std.proofs.lemmas.Bool.{and_from, eq-eqb, le-ltb, ne_eqb}
 use Rattle.model.specs.Universe.{Universe}
 use Rattle.model.specs.Config.{empty}
@@ -11,10 +11,10 @@ use Rattle.universe.specs.Reading.{Read}
 use Rattle.universe.specs.Sets.{field, has}
 use Rattle.universe.specs.Tables.{entry_at, universe_of}
 use Rattle.universe.proofs.PackedSets.{field_has}
-use Rattle.checking.specs.Checking.{is_empty, lines_checked}
-use Rattle.checking.specs.Judging.{judged, situation}
+use Rattle.checking.specs.Checking.{is_empty}
+use Rattle.checking.specs.Judging.{situation}
 use Rattle.sengoruwa_c.specs.Numbers.{PlacesLaw, entry_number, set_of}
-use Rattle.sengoruwa_c.specs.Refusals.{RefusedAsChecked, by_draft}
+use Rattle.sengoruwa_c.specs.Refusals.{RefusedAsChecked}
 
 -- a set of an entry that fits its field is the one that packs what is in it
 module _ (t : Tables) (k q : ℕ) (s : State) (is : s ≡ entry_at t k q) where
