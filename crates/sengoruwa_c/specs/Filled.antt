@@ -2,10 +2,10 @@
 use Rattle.std.specs.Prelude.{ℕ, List, ◌++◌, drop, length, map, min}
 use Rattle.std.specs.List.{range_with_len}
 
--- the list with f of each of its first k places in these, and behind them what it held
+-- the list with f of the place in each of its first k places, and behind them what it held
 abbrev pub begun : (ℕ → ℕ) → ℕ → List ℕ → List ℕ
 begun f k xs = map f (range_with_len 0 k) ++ drop k xs
 
--- the list with f of each of the first n places in these, as far as it has them, and behind them what it held
+-- the same in its first n places, as far as it has them
 abbrev pub filled : (ℕ → ℕ) → ℕ → List ℕ → List ℕ
 filled f n xs = begun f (min (length xs) n) xs
