@@ -6,8 +6,8 @@ It has the same author as they, so a rule that was misread would be misread in b
 hosts also stand in the table, worked out by hand, and have to be those of the simulation. So do most of the planner's.
 The planner is planning.py, and the universes that are made for it stand in plan_cases.py; the check is checking.py, and its
 drafts stand in check_cases.py; whole runs are in running.py, and their cases in run_cases.py.
-Run from the repository's root, it writes the inputs to crates/cases/data/ and what the program
-`cases` has to print for them to crates/cases/stdout, and so for host_cases, plan_cases, check_cases and run_cases.
+Run from the repository's root, it writes the inputs to crates/cases/data/ and what the program `cases` has to print for
+them to crates/cases/stdout.
 """
 import os
 
@@ -744,7 +744,7 @@ def closing_text(data):
 
 
 def closings_table():
-    """The same of a table: all universes of `cases`, and those that are made for the planner."""
+    """The same of closing orders: all universes of UNIVERSES, and those that are made for the planner."""
     rows, out, seen = "", "closings\n", set()
     for label, data in UNIVERSES + [(case[0], case[1]) for case in plan_cases.CASES]:
         if data not in seen:
@@ -780,39 +780,44 @@ def plans_table():
     return rows, out
 
 
-def write_case(crate, tables, out):
-    """Writes the data files of a program of cases, and what it has to print."""
-    folder = os.path.join(os.path.dirname(os.path.abspath(__file__)), "..", "crates", crate)
-    os.makedirs(os.path.join(folder, "data"), exist_ok=True)
-    for name, rows in [(os.path.join("data", f"{table}.txt"), rows) for table, rows in tables] + [("stdout", out)]:
-        with open(os.path.join(folder, name), "w") as f:
-            f.write(rows)
+def file_table(name, table, show):
+    """The rows of a data file of packed files or texts, and what is printed of them."""
+    rows, out = "", f"{name}\n"
+    for label, data in table:
+        data = data.encode() if isinstance(data, str) else data
+        rows += f"{label} = {data.hex()}\n"
+        out += f"{label}:\n{show(data)}"
+    return rows, out
+
+
+def write(name, text):
+    """Writes a file of the program `cases`."""
+    folder = os.path.join(os.path.dirname(os.path.abspath(__file__)), "..", "crates", "cases")
+    with open(os.path.join(folder, name), "w") as f:
+        f.write(text)
 
 
 def main():
     import check_cases  # which stands on this module
     import run_cases  # and so does this
 
-    tables, out = [], ""
-    for name, table, show in [("universes", UNIVERSES, universe_text), ("scripts", SCRIPTS, lines_text), ("orders", PACKS, pack_text)]:
-        out += f"{name}\n"
-        rows = ""
-        for label, data in table:
-            data = data.encode() if isinstance(data, str) else data
-            rows += f"{label} = {data.hex()}\n"
-            out += f"{label}:\n{show(data)}"
-        tables.append((name, rows))
-    write_case("cases", tables, out)
-    for crate, named in [
-        ("host_cases", [("hosts", hosts_table()), ("layered", layered_table())]),
-        ("plan_cases", [("closings", closings_table()), ("plans", plans_table())]),
-        ("script_cases", [
-            ("drafts", check_cases.drafts_table()),
-            ("standing", check_cases.standing_table()),
-            ("runs", run_cases.runs_table()),
-        ]),
-    ]:
-        write_case(crate, [(name, rows) for name, (rows, _) in named], "".join(out for _, (_, out) in named))
+    printed = ""
+    # In the order in which the program shows them.
+    for name, (rows, out) in {
+        "universes": file_table("universes", UNIVERSES, universe_text),
+        "scripts": file_table("scripts", SCRIPTS, lines_text),
+        "orders": file_table("orders", PACKS, pack_text),
+        "closings": closings_table(),
+        "plans": plans_table(),
+        "hosts": hosts_table(),
+        "layered": layered_table(),
+        "drafts": check_cases.drafts_table(),
+        "standing": check_cases.standing_table(),
+        "runs": run_cases.runs_table(),
+    }.items():
+        write(os.path.join("data", f"{name}.txt"), rows)
+        printed += out
+    write("stdout", printed)
 
 
 if __name__ == "__main__":
