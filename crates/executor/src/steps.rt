@@ -1,5 +1,5 @@
 // Starting, stepping and finishing.
-ghost use Rattle.std.specs.Prelude.{◌≡◌, ◌+◌, ◌^◌, ◌<◌, cond};
+ghost use Rattle.std.specs.Prelude.{◌≡◌, ◌+◌, ◌^◌, ◌<◌, IfErr, cond, false};
 ghost use Rattle.std.specs.Option.{IfSome};
 ghost use Rattle.hosts.specs.Answers.{Gives, is_done};
 ghost use Rattle.executor.specs.Stages.{StartedUnless, finished, lines_of, started};
@@ -35,7 +35,8 @@ impl RunningPlan<'_> {
 impl Ticket {
     // Counts the bindings that an order made and ended, by whether it made one, and how many stood before and stand after it.
     fn count(&mut self, is_made: bool, before: u32, after: u32)
-        ensures { self.new ≡ counted self.old is_made before after }
+        ensures counted { self.new ≡ counted self.old is_made before after }
+        ensures same { is_made ≡ false → before ≡ after → self.new ≡ self.old }
     {
         let made = u64::from(is_made);
         let ended = (u64::from(before) + made).saturating_sub(u64::from(after));
@@ -49,6 +50,7 @@ fn give_counted<B: Host>(ticket: &mut Ticket, host: &mut B, order: Order) -> Res
     ensures answered { Gives B.Survey.situation B.service order host.old host.new result }
     ensures exact { B.does order host.old host.new result }
     ensures ticket { ticket.new ≡ ticket_after ticket.old order result (B.Survey.situation host.old) (B.Survey.situation host.new) }
+    ensures refused { IfErr result (λ _. ticket.new ≡ ticket.old) }
 {
     let before = host.bindings();
     let answer = give(host, order);
@@ -70,6 +72,7 @@ fn give_line<B: Host>(
     ensures plan { plan.new.plan ≡ plan.old.plan }
     ensures place { plan.new.place ≡ plan.old.place + cond (is_done result) 1 0 }
     ensures ticket { ticket.new ≡ ticket_after ticket.old order result (B.Survey.situation host.old) (B.Survey.situation host.new) }
+    ensures refused { IfErr result (λ _. (plan.new ≡ plan.old) × (ticket.new ≡ ticket.old)) }
 {
     give_counted(ticket, host, order)?;
     plan.place += 1;
@@ -111,6 +114,7 @@ pub fn step<B: Host>(
 ) -> Result<(), StepFault>
     ensures taken { Takes B.Survey.situation B.service B.does (order_at (lines_of plan.old) plan.old.place) (running host.old plan.old ticket.old) result (running host.new plan.new ticket.new) }
     ensures plan { plan.new.plan ≡ plan.old.plan }
+    ensures refused { IfErr result (λ _. (plan.new ≡ plan.old) × (ticket.new ≡ ticket.old)) }
 {
     let place = plan.place;
     let order = plan.next_order().ok_or(StepFault::NoLine)?;
