@@ -1,12 +1,13 @@
-"""Builds three clients of the libraries: one is right and has to be built, two are wrong and the compiler has to refuse them.
+"""Builds six clients of the libraries: one is right and has to be built, five are wrong and the compiler has to refuse them.
 
     python3 tools/try_clients.py [--built]
 
 The right client opens a cloud of the harbour universe, checks a draft of two orders, starts it, steps twice and finishes. The
-wrong ones differ from it in one line each: one lets the ticket of the run lapse, the other starts a draft that was not
-checked. Each is a crate in a folder outside the repository, built over the libraries of this checkout, which `rt lib` first
-brings up to date; with --built they are taken as `rt ci` has just built them in a clean clone. Printed is a line for each
-client, and what the compiler said of one that is not as it must be. The status is 0 only if all three are.
+wrong ones differ from it in one line each: one lets the ticket of the run lapse, one starts a draft that was not checked, one
+makes the checked plan itself, one uses its ticket again after `finish` took it, and one makes running plan and ticket itself.
+Each is a crate in a folder outside the repository, built over the libraries of this checkout, which `rt lib` first brings up to
+date; with --built they are taken as `rt ci` has just built them in a clean clone. Printed is a line for each client, and what the
+compiler said of one that is not as it must be. The status is 0 only if all six are.
 """
 import argparse
 import os
@@ -53,24 +54,47 @@ pub fn run() -> Option<(usize, u64)> {
 }
 """
 
-# Of each wrong client: its name, the line of the right one that it has another for, that other line, and the one error that
-# the compiler has to give, with how its message begins.
+# Of each wrong client: its name, the line of the right one that it has another for, that other line, and the code of the errors
+# that the compiler has to give, with how the message of each begins.
 WRONG = [
     (
         "lapsed",
         "    let leases = finish(running, ticket).leases;\n",
         "    let leases = ticket.leases();\n",
-        ("linear-value-let-go", "`ticket` is let go where its block ends, and `Ticket` is not `Drop`"),
+        ("linear-value-let-go", ["`ticket` is let go where its block ends, and `Ticket` is not `Drop`"]),
     ),
     (
         "unchecked",
         "    let plan = check(draft, &cloud).ok()?;\n",
         "    let plan = draft;\n",
-        ("mismatched-types", "expected `CheckedPlan`, found `Draft`"),
+        ("mismatched-types", ["expected `CheckedPlan`, found `Draft`"]),
+    ),
+    (
+        "own_plan",
+        "    let plan = check(draft, &cloud).ok()?;\n",
+        "    let plan = checking::stages::CheckedPlan { lines: &lines };\n",
+        ("private-field", ["field `lines` of struct `CheckedPlan` is private"]),
+    ),
+    (
+        "used_again",
+        "    let leases = finish(running, ticket).leases;\n",
+        "    let leases = finish(running, ticket).leases + ticket.leases();\n",
+        ("borrow-e0382", ["borrow of moved value: `ticket`: note: `executor::stages::Ticket` does not derive `Copy`"]),
+    ),
+    (
+        "own_stages",
+        "    let (mut running, mut ticket) = start(plan, &cloud).ok()?;\n",
+        "    let (mut running, mut ticket) = (executor::stages::RunningPlan { plan, place: 0 }, executor::stages::Ticket { made: 0, ended: 0 });\n",
+        ("private-field", [
+            "field `plan` of struct `RunningPlan` is private",
+            "field `place` of struct `RunningPlan` is private",
+            "field `made` of struct `Ticket` is private",
+            "field `ended` of struct `Ticket` is private",
+        ]),
     ),
 ]
 
-ERROR = re.compile(r"error\[([a-z-]+)\]: (.*)")
+ERROR = re.compile(r"error\[([a-z0-9-]+)\]: (.*)")
 
 
 def crates():
@@ -137,13 +161,15 @@ def try_wrong(name, old, new, wanted, words, top):
     is_built, said = build(name, RIGHT.replace(old, new), words, top)
     if is_built:
         return tell(name, False, "built", said)
+    code, beginnings = wanted
     errors = ERROR.findall(said)
-    is_so = [code for code, _ in errors] == [wanted[0]] and errors[0][1].startswith(wanted[1])
-    return tell(name, is_so, f"refused, error[{wanted[0]}]" if is_so else f"not refused with error[{wanted[0]}] alone", said)
+    is_so = len(errors) == len(beginnings) and all(
+        it == code and message.startswith(beginning) for (it, message), beginning in zip(errors, beginnings))
+    return tell(name, is_so, f"refused, error[{code}]" if is_so else f"not refused as it must be, with error[{code}]", said)
 
 
 def main():
-    options = argparse.ArgumentParser(description="Builds three clients of the libraries.")
+    options = argparse.ArgumentParser(description="Builds six clients of the libraries.")
     options.add_argument("--built", action="store_true", help="take the libraries as rt ci has just built them in a clean clone")
     is_built = options.parse_args().built
     known = crates()
