@@ -126,29 +126,48 @@ def usage_text():
 
 # The messages of usage errors.
 USAGE = usage_text()
-CUT_SHORT = "the script is cut short: a script file has four bytes for each line"
-UNKNOWN = "the command has no such option: the usage text has them all"
-TWICE = "given twice: give each option once"
-NO_VALUE = "no value: write it behind the option"
-NO_LAYERS = "no such layers: write v or vv"
-NO_STEPS = "no number of steps: write decimal digits, up to 1048576"
-NO_NUMBER = "no number: write decimal digits, up to 4294967295"
+UNKNOWN = "is no option of the command: sengoruwa with no words prints all commands and options"
+TWICE = "is given twice: give each option once"
+NO_VALUE = "has no value: write it behind the option"
+NO_LAYERS = "is no word for --layers: write v or vv, or an empty word for none"
+NO_STEPS = "is no number for --steps: write decimal digits, up to 1048576"
+DEMO = "demo: write nothing behind it"
+UNIVERSE = "universe: name one universe file"
+CLOSING = "closing: name one universe file"
+PLAN_WORDS = "plan: name a universe file and a goal"
+CHECK = "check: name a universe file and a packed script"
+LINES = "lines: name one packed script"
+PACK = "pack: name a text file of orders and the file to write"
+HOST = "host: name a universe file and a text file of orders"
+RUN = "run: name a universe file, and either a goal or --script with a packed script, not both"
+
+
+def no_command(word):
+    return f"'{word}' is no command\n{USAGE}"
+
+
+def no_number(option):
+    return f"is no number for {option}: write decimal digits, up to 4294967295"
+
+
+def no_script(path):
+    return f"'{path}' is no script: its length is no multiple of four bytes, as many as a line has"
 
 
 def unreadable(path):
-    return f"cannot read {path}: name a file that can be read"
+    return f"cannot read '{path}': name a file that can be read"
 
 
 def unwritable(path):
-    return f"cannot write {path}: name a file that can be written"
+    return f"cannot write '{path}': name a file that can be written"
 
 
 def no_order(number, path):
-    return f"line {number} of {path} writes no order: write it as in the usage text"
+    return f"line {number} of '{path}' writes no order: write one as c 0 1, b 0 0 1, s 0 1, u 0 0 1 or d 0, with single blanks and nothing behind it"
 
 
 def no_goal(word):
-    return f"{word}: no goal: write its bytes in hexadecimal digits, as 24, or @PATH for a file of them"
+    return f"'{word}' is no goal: write its bytes in hexadecimal digits, as 24, or @PATH for a file of them"
 
 
 def planned(data, goal):
@@ -184,11 +203,11 @@ ACCIDENT_REFUSED = ACCIDENT_DONE[:-1] + [("u 0 0 2", "30 by 1")]
 
 COMMANDS = [
     misuses("", USAGE),
-    misuses("''", USAGE),
-    misuses("help", USAGE),
-    misuses("--help", USAGE),
-    misuses("Demo", USAGE),
-    misuses("demo 24", USAGE),
+    misuses("''", no_command("")),
+    misuses("help", no_command("help")),
+    misuses("--help", no_command("--help")),
+    misuses("Demo", no_command("Demo")),
+    misuses("demo 24", DEMO),
 ]
 
 UNIVERSES = [
@@ -196,15 +215,15 @@ UNIVERSES = [
     prints("universe full.universe", reference.universe_text(FULL)),
     refuses("universe cut.universe", "refused 1\n"),
     refuses("universe empty.goal", "refused 1\n"),
-    misuses("universe", USAGE),
-    misuses("universe harbour.universe harbour.universe", USAGE),
+    misuses("universe", UNIVERSE),
+    misuses("universe harbour.universe harbour.universe", UNIVERSE),
     misuses("universe none", unreadable("none")),
     misuses("universe folder", unreadable("folder")),
     prints("closing harbour.universe", reference.closing_text(HARBOUR)),
     prints("closing lone.universe", "0 0/0 parent -\nport 0 supplier -\n"),
     refuses("closing cut.universe", "refused 1\n"),
-    misuses("closing", USAGE),
-    misuses("closing harbour.universe 24", USAGE),
+    misuses("closing", CLOSING),
+    misuses("closing harbour.universe 24", CLOSING),
     misuses("closing none", unreadable("none")),
     misuses("closing --room", unreadable("--room")),
 ]
@@ -233,9 +252,9 @@ PLANS = [
     refuses("plan harbour.universe 25 --out none/new.script", "refused 12\n"),
     refuses("plan lone.universe 02", "refused 14\n"),
     refuses("plan cut.universe 24 --out new.script", "refused 1\n"),
-    misuses("plan", USAGE),
-    misuses("plan harbour.universe", USAGE),
-    misuses("plan harbour.universe 24 02", USAGE),
+    misuses("plan", PLAN_WORDS),
+    misuses("plan harbour.universe", PLAN_WORDS),
+    misuses("plan harbour.universe 24 02", PLAN_WORDS),
     misuses("plan harbour.universe 24 --out none/new.script", unwritable("none/new.script")),
     misuses("plan harbour.universe 24 --out folder", unwritable("folder")),
     misuses("plan none 24 --out old.file", unreadable("none")),
@@ -246,14 +265,14 @@ PLANS = [
     misuses("plan harbour.universe 0x24", no_goal("0x24")),
     misuses("plan harbour.universe '24 '", no_goal("24 ")),
     misuses("plan harbour.universe -24", no_goal("-24")),
-    misuses("plan harbour.universe 24 --delay 1", f"--delay: {UNKNOWN}"),
-    misuses("plan harbour.universe 24 --steps 1", f"--steps: {UNKNOWN}"),
-    misuses("plan harbour.universe 24 --out new.script --out old.file", f"--out: {TWICE}"),
-    misuses("plan harbour.universe 24 --out", f"--out: {NO_VALUE}"),
-    misuses("plan harbour.universe 24 --room", f"--room: {NO_VALUE}"),
-    misuses("plan harbour.universe 24 --out new.script --room x", f"x: {NO_NUMBER}"),
-    misuses("plan harbour.universe 24 --room 4294967296", f"4294967296: {NO_NUMBER}"),
-    misuses("plan harbour.universe 24 --room -1", f"-1: {NO_NUMBER}"),
+    misuses("plan harbour.universe 24 --delay 1", f"'--delay' {UNKNOWN}"),
+    misuses("plan harbour.universe 24 --steps 1", f"'--steps' {UNKNOWN}"),
+    misuses("plan harbour.universe 24 --out new.script --out old.file", f"'--out' {TWICE}"),
+    misuses("plan harbour.universe 24 --out", f"'--out' {NO_VALUE}"),
+    misuses("plan harbour.universe 24 --room", f"'--room' {NO_VALUE}"),
+    misuses("plan harbour.universe 24 --out new.script --room x", f"'x' {no_number('--room')}"),
+    misuses("plan harbour.universe 24 --room 4294967296", f"'4294967296' {no_number('--room')}"),
+    misuses("plan harbour.universe 24 --room -1", f"'-1' {no_number('--room')}"),
 ]
 
 SCRIPTS = [
@@ -265,22 +284,22 @@ SCRIPTS = [
     refuses("check harbour.universe empty.script", "refused 41\n"),
     refuses("check harbour.universe many.script", "refused 41\n"),
     refuses("check cut.universe exchanged.script", "refused 1\n"),
-    misuses("check harbour.universe odd1.script", CUT_SHORT),
-    misuses("check cut.universe odd2.script", CUT_SHORT),
-    misuses("check harbour.universe odd3.script", CUT_SHORT),
+    misuses("check harbour.universe odd1.script", no_script("odd1.script")),
+    misuses("check cut.universe odd2.script", no_script("odd2.script")),
+    misuses("check harbour.universe odd3.script", no_script("odd3.script")),
     misuses("check none harbour.script", unreadable("none")),
     misuses("check cut.universe none", unreadable("none")),
-    misuses("check harbour.universe", USAGE),
-    misuses("check harbour.universe harbour.script harbour.script", USAGE),
+    misuses("check harbour.universe", CHECK),
+    misuses("check harbour.universe harbour.script harbour.script", CHECK),
     prints("lines harbour.script", lines(*PLAN)),
     prints("lines empty.script", ""),
     prints("lines --out", "c 1 1\n"),
     refuses("lines bad.script", "c 1 1\nrefused 43 at 1\n"),
-    misuses("lines odd1.script", CUT_SHORT),
-    misuses("lines odd2.script", CUT_SHORT),
-    misuses("lines odd3.script", CUT_SHORT),
+    misuses("lines odd1.script", no_script("odd1.script")),
+    misuses("lines odd2.script", no_script("odd2.script")),
+    misuses("lines odd3.script", no_script("odd3.script")),
     misuses("lines none", unreadable("none")),
-    misuses("lines", USAGE),
+    misuses("lines", LINES),
     prints("pack harbour.orders new.script", "11 lines\n", {"new.script": WHOLE}),
     prints("pack harbour.orders old.file", "11 lines\n", {"old.file": WHOLE}),
     prints("pack one.orders one.orders", "1 lines\n", {"one.orders": packed("c 0 0")}),
@@ -293,8 +312,8 @@ SCRIPTS = [
     misuses("pack none new.script", unreadable("none")),
     misuses("pack harbour.orders none/new.script", unwritable("none/new.script")),
     misuses("pack harbour.orders folder", unwritable("folder")),
-    misuses("pack harbour.orders", USAGE),
-    misuses("pack harbour.orders new.script old.file", USAGE),
+    misuses("pack harbour.orders", PACK),
+    misuses("pack harbour.orders new.script old.file", PACK),
 ]
 
 HOSTS = [
@@ -313,19 +332,19 @@ HOSTS = [
     misuses("host cut.universe bad.orders", no_order(3, "bad.orders")),
     misuses("host none one.orders", unreadable("none")),
     misuses("host cut.universe none", unreadable("none")),
-    misuses("host", USAGE),
-    misuses("host harbour.universe --layers one.orders one.orders", f"one.orders: {NO_LAYERS}"),
-    misuses("host harbour.universe", USAGE),
-    misuses("host harbour.universe one.orders one.orders", USAGE),
-    misuses("host harbour.universe one.orders --steps 1", f"--steps: {UNKNOWN}"),
-    misuses("host harbour.universe one.orders --delay=1", f"--delay=1: {UNKNOWN}"),
-    misuses("host harbour.universe one.orders --Delay 1", f"--Delay: {UNKNOWN}"),
-    misuses("host harbour.universe one.orders --", f"--: {UNKNOWN}"),
-    misuses("host harbour.universe one.orders --layers V", f"V: {NO_LAYERS}"),
-    misuses("host harbour.universe one.orders --layers vvv", f"vvv: {NO_LAYERS}"),
-    misuses("host harbour.universe one.orders --delay --delay", f"--delay: {NO_NUMBER}"),
-    misuses("host --delay 1 harbour.universe one.orders --delay 1", f"--delay: {TWICE}"),
-    misuses("host harbour.universe one.orders --instances +1 --delay x --room 5", f"+1: {NO_NUMBER}"),
+    misuses("host", HOST),
+    misuses("host harbour.universe --layers one.orders one.orders", f"'one.orders' {NO_LAYERS}"),
+    misuses("host harbour.universe", HOST),
+    misuses("host harbour.universe one.orders one.orders", HOST),
+    misuses("host harbour.universe one.orders --steps 1", f"'--steps' {UNKNOWN}"),
+    misuses("host harbour.universe one.orders --delay=1", f"'--delay=1' {UNKNOWN}"),
+    misuses("host harbour.universe one.orders --Delay 1", f"'--Delay' {UNKNOWN}"),
+    misuses("host harbour.universe one.orders --", f"'--' {UNKNOWN}"),
+    misuses("host harbour.universe one.orders --layers V", f"'V' {NO_LAYERS}"),
+    misuses("host harbour.universe one.orders --layers vvv", f"'vvv' {NO_LAYERS}"),
+    misuses("host harbour.universe one.orders --delay --delay", f"'--delay' {no_number('--delay')}"),
+    misuses("host --delay 1 harbour.universe one.orders --delay 1", f"'--delay' {TWICE}"),
+    misuses("host harbour.universe one.orders --instances +1 --delay x --room 5", f"'+1' {no_number('--instances')}"),
 ]
 
 RUNS = [
@@ -350,26 +369,26 @@ RUNS = [
     refuses("run lone.universe 02", "refused 14\n"),
     refuses("run cut.universe 25", "refused 1\n"),
     refuses("run cut.universe --script empty.script", "refused 1\n"),
-    misuses("run", USAGE),
-    misuses("run harbour.universe", USAGE),
-    misuses("run harbour.universe 24 02", USAGE),
-    misuses("run harbour.universe 24 --script harbour.script", USAGE),
-    misuses("run --script harbour.script", USAGE),
-    misuses("run cut.universe --script odd1.script", CUT_SHORT),
-    misuses("run harbour.universe --script odd3.script", CUT_SHORT),
+    misuses("run", RUN),
+    misuses("run harbour.universe", RUN),
+    misuses("run harbour.universe 24 02", RUN),
+    misuses("run harbour.universe 24 --script harbour.script", RUN),
+    misuses("run --script harbour.script", RUN),
+    misuses("run cut.universe --script odd1.script", no_script("odd1.script")),
+    misuses("run harbour.universe --script odd3.script", no_script("odd3.script")),
     misuses("run harbour.universe --script none", unreadable("none")),
     misuses("run harbour.universe --script --steps", unreadable("--steps")),
     misuses("run none 24", unreadable("none")),
     misuses("run cut.universe @none", unreadable("none")),
     misuses("run cut.universe 2", no_goal("2")),
-    misuses("run harbour.universe 24 --steps 1048577", f"1048577: {NO_STEPS}"),
-    misuses("run harbour.universe 24 --steps -1", f"-1: {NO_STEPS}"),
-    misuses("run harbour.universe 24 --steps", f"--steps: {NO_VALUE}"),
-    misuses("run harbour.universe 24 --steps 1 --steps 1", f"--steps: {TWICE}"),
-    misuses("run harbour.universe --script harbour.script --script harbour.script", f"--script: {TWICE}"),
-    misuses("run harbour.universe 24 --delay 4294967296", f"4294967296: {NO_NUMBER}"),
-    misuses("run harbour.universe 24 --room 5", f"--room: {UNKNOWN}"),
-    misuses("run harbour.universe 24 --out new.script", f"--out: {UNKNOWN}"),
+    misuses("run harbour.universe 24 --steps 1048577", f"'1048577' {NO_STEPS}"),
+    misuses("run harbour.universe 24 --steps -1", f"'-1' {NO_STEPS}"),
+    misuses("run harbour.universe 24 --steps", f"'--steps' {NO_VALUE}"),
+    misuses("run harbour.universe 24 --steps 1 --steps 1", f"'--steps' {TWICE}"),
+    misuses("run harbour.universe --script harbour.script --script harbour.script", f"'--script' {TWICE}"),
+    misuses("run harbour.universe 24 --delay 4294967296", f"'4294967296' {no_number('--delay')}"),
+    misuses("run harbour.universe 24 --room 5", f"'--room' {UNKNOWN}"),
+    misuses("run harbour.universe 24 --out new.script", f"'--out' {UNKNOWN}"),
 ]
 
 FAILURES = [

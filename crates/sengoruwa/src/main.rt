@@ -51,10 +51,12 @@ s INSTANCE STATE (change), u PORT PROVIDER REQUIRER (unbind), d INSTANCE (delete
 // How the program was called wrongly, and what to do.
 #[derive(Clone, Copy)]
 enum Misuse<'a> {
-    Usage,
+    NoCommand,
+    NoSuchCommand(&'a str),
+    Words(&'static str),
     Unreadable(&'a str),
     Unwritable(&'a str),
-    CutShort,
+    NoScript(&'a str),
     NoOrder { line: usize, path: &'a str },
     NoGoal(&'a str),
     Option { word: &'a str, reason: Reason },
@@ -63,25 +65,28 @@ enum Misuse<'a> {
 impl fmt::Display for Misuse<'_> {
     fn fmt<W: fmt::Write>(&self, f: &mut fmt::Formatter<W>) -> fmt::Result {
         match self {
-            Misuse::Usage => f.write_str(USAGE),
+            Misuse::NoCommand => f.write_str(USAGE),
+            Misuse::NoSuchCommand(word) => write!(f, "'{word}' is no command\n{USAGE}"),
+            Misuse::Words(wanted) => f.write_str(wanted),
             Misuse::Unreadable(path) => {
-                write!(f, "cannot read {path}: name a file that can be read")
+                write!(f, "cannot read '{path}': name a file that can be read")
             }
             Misuse::Unwritable(path) => {
-                write!(f, "cannot write {path}: name a file that can be written")
+                write!(f, "cannot write '{path}': name a file that can be written")
             }
-            Misuse::CutShort => f.write_str(
-                "the script is cut short: a script file has four bytes for each line",
+            Misuse::NoScript(path) => write!(
+                f,
+                "'{path}' is no script: its length is no multiple of four bytes, as many as a line has"
             ),
             Misuse::NoOrder { line, path } => write!(
                 f,
-                "line {line} of {path} writes no order: write it as in the usage text"
+                "line {line} of '{path}' writes no order: write one as c 0 1, b 0 0 1, s 0 1, u 0 0 1 or d 0, with single blanks and nothing behind it"
             ),
             Misuse::NoGoal(word) => write!(
                 f,
-                "{word}: no goal: write its bytes in hexadecimal digits, as 24, or @PATH for a file of them"
+                "'{word}' is no goal: write its bytes in hexadecimal digits, as 24, or @PATH for a file of them"
             ),
-            Misuse::Option { word, reason } => write!(f, "{word}: {}", fault_text(*reason)),
+            Misuse::Option { word, reason } => write!(f, "'{word}' {}", fault_text(*reason)),
         }
     }
 }
@@ -93,8 +98,10 @@ enum Stop<'a> {
     Refused(String),
     // It is called wrongly: the message is printed on standard error.
     Misused(Misuse<'a>),
-    // Memory has run out, or a stream cannot be written.
-    Failed(anyhow::Error),
+    // Memory has run out.
+    NoMemory,
+    // Standard output cannot be written.
+    Unprinted(io::Error),
 }
 
 impl<'a> From<Misuse<'a>> for Stop<'a> {
@@ -110,14 +117,14 @@ impl From<String> for Stop<'_> {
 }
 
 impl From<AllocError> for Stop<'_> {
-    fn from(error: AllocError) -> Self {
-        Stop::Failed(error.into())
+    fn from(_: AllocError) -> Self {
+        Stop::NoMemory
     }
 }
 
 impl From<io::Error> for Stop<'_> {
     fn from(error: io::Error) -> Self {
-        Stop::Failed(error.into())
+        Stop::Unprinted(error)
     }
 }
 
@@ -148,9 +155,9 @@ fn show_closing<'a>(rt: &HostRuntime, path: &'a str) -> Result<(), Stop<'a>> {
 // The lines of a script file.
 fn read_script<'a>(rt: &HostRuntime, path: &'a str) -> Result<Vec<u32>, Stop<'a>> {
     let bytes = read_file(rt, path)?;
-    let lines = script_lines(rt.alloc(), &bytes).map_err(|failure| failure.map(
-        |_| Misuse::CutShort,
-    ))?;
+    let lines = script_lines(rt.alloc(), &bytes).map_err(|failure| failure.map(|_| Misuse::NoScript(
+        path,
+    )))?;
     Ok(lines)
 }
 
@@ -193,12 +200,30 @@ fn pack<'a>(rt: &HostRuntime, orders: &'a str, path: &'a str) -> Result<(), Stop
 // What is wrong with an option, and what to do.
 fn fault_text(reason: Reason) -> &'static str {
     match reason {
-        Reason::Unknown => "the command has no such option: the usage text has them all",
-        Reason::Twice(_) => "given twice: give each option once",
-        Reason::NoValue(_) => "no value: write it behind the option",
-        Reason::BadValue(Flag::Layers) => "no such layers: write v or vv",
-        Reason::BadValue(Flag::Steps) => "no number of steps: write decimal digits, up to 1048576",
-        Reason::BadValue(_) => "no number: write decimal digits, up to 4294967295",
+        Reason::Unknown => {
+            "is no option of the command: sengoruwa with no words prints all commands and options"
+        }
+        Reason::Twice(_) => "is given twice: give each option once",
+        Reason::NoValue(_) => "has no value: write it behind the option",
+        Reason::BadValue(Flag::Layers) => {
+            "is no word for --layers: write v or vv, or an empty word for none"
+        }
+        Reason::BadValue(Flag::Steps) => {
+            "is no number for --steps: write decimal digits, up to 1048576"
+        }
+        Reason::BadValue(Flag::Instances) => {
+            "is no number for --instances: write decimal digits, up to 4294967295"
+        }
+        Reason::BadValue(Flag::Bindings) => {
+            "is no number for --bindings: write decimal digits, up to 4294967295"
+        }
+        Reason::BadValue(Flag::Delay) => {
+            "is no number for --delay: write decimal digits, up to 4294967295"
+        }
+        Reason::BadValue(Flag::Room) => {
+            "is no number for --room: write decimal digits, up to 4294967295"
+        }
+        Reason::BadValue(_) => "is no value of the option",
     }
 }
 
@@ -230,22 +255,28 @@ fn command_options(command: Command, words: &[String]) -> Result<Given, Misuse<'
     parse_options(command, words).map_err(|fault| misused_option(words, fault))
 }
 
-// The plain words of a command that has two.
-fn two_words(words: &[String]) -> Result<(&str, &str), Misuse<'_>> {
+// The plain words of a command that has two; else what is wanted.
+fn two_words<'a>(
+    words: &'a [String],
+    wanted: &'static str,
+) -> Result<(&'a str, &'a str), Misuse<'a>> {
     match (
         plain_word(words, 0),
         plain_word(words, 1),
         plain_word(words, 2),
     ) {
         (Some(first), Some(second), None) => Ok((first, second)),
-        _ => Err(Misuse::Usage),
+        _ => Err(Misuse::Words(wanted)),
     }
 }
 
 // Gives the orders of a text file to a fresh host of the universe.
 fn host<'a>(rt: &HostRuntime, words: &'a [String]) -> Result<(), Stop<'a>> {
     let given = command_options(Command::Host, words)?;
-    let (universe, orders) = two_words(words)?;
+    let (universe, orders) = two_words(
+        words,
+        "host: name a universe file and a text file of orders",
+    )?;
     let universe = read_file(rt, universe)?;
     let orders = read_orders(rt, orders)?;
     Ok(rt.print(host_command_report(rt.alloc(), &universe, given.host_options(), &orders)?)?)
@@ -265,7 +296,7 @@ fn read_goal<'a>(rt: &HostRuntime, word: &'a str) -> Result<Vec<u8>, Stop<'a>> {
 // Plans the goal, writes the script to the file that an option names, and shows it.
 fn plan<'a>(rt: &HostRuntime, words: &'a [String]) -> Result<(), Stop<'a>> {
     let given = command_options(Command::Plan, words)?;
-    let (universe, goal) = two_words(words)?;
+    let (universe, goal) = two_words(words, "plan: name a universe file and a goal")?;
     let universe = read_file(rt, universe)?;
     let goal = read_goal(rt, goal)?;
     let room = given.room.map_or(MOST_LINES, |room| room as usize);
@@ -279,7 +310,11 @@ fn plan<'a>(rt: &HostRuntime, words: &'a [String]) -> Result<(), Stop<'a>> {
     Ok(rt.print(lines_report(rt.alloc(), &lines)?)?)
 }
 
-// The plain words of a command that has one or two.
+// What the command `run` wants.
+const RUN_WORDS: &str =
+    "run: name a universe file, and either a goal or --script with a packed script, not both";
+
+// The plain words of the command `run`, one or two.
 fn one_or_two_words(words: &[String]) -> Result<(&str, Option<&str>), Misuse<'_>> {
     match (
         plain_word(words, 0),
@@ -287,7 +322,7 @@ fn one_or_two_words(words: &[String]) -> Result<(&str, Option<&str>), Misuse<'_>
         plain_word(words, 2),
     ) {
         (Some(first), second, None) => Ok((first, second)),
-        _ => Err(Misuse::Usage),
+        _ => Err(Misuse::Words(RUN_WORDS)),
     }
 }
 
@@ -322,7 +357,7 @@ fn run<'a>(rt: &HostRuntime, words: &'a [String]) -> Result<(), Stop<'a>> {
             let lines = read_script(rt, path.as_str())?;
             show_run(rt, universe, Request::Script(&lines), given)
         }
-        _ => Err(Stop::Misused(Misuse::Usage)),
+        _ => Err(Stop::Misused(Misuse::Words(RUN_WORDS))),
     }
 }
 
@@ -379,6 +414,28 @@ fn demo(rt: &HostRuntime) -> Result<(), Stop<'static>> {
     )
 }
 
+// What a command wants that takes files alone; none where there is no such command.
+fn words_wanted(command: &str) -> Option<&'static str> {
+    match command {
+        "demo" => Some("demo: write nothing behind it"),
+        "universe" => Some("universe: name one universe file"),
+        "closing" => Some("closing: name one universe file"),
+        "check" => Some("check: name a universe file and a packed script"),
+        "lines" => Some("lines: name one packed script"),
+        "pack" => Some("pack: name a text file of orders and the file to write"),
+        _ => None,
+    }
+}
+
+// How the words are wrong, where no command takes them.
+fn misused_words(words: &[String]) -> Misuse<'_> {
+    let Some(command) = words.first() else {
+        return Misuse::NoCommand;
+    };
+    let command = command.as_str();
+    words_wanted(command).map_or(Misuse::NoSuchCommand(command), Misuse::Words)
+}
+
 // Does what the command among the words says.
 fn execute<'a>(rt: &HostRuntime, words: &'a [String]) -> Result<(), Stop<'a>> {
     match words {
@@ -395,7 +452,7 @@ fn execute<'a>(rt: &HostRuntime, words: &'a [String]) -> Result<(), Stop<'a>> {
         }
         [command, rest @ ..] if command.as_str() == "host" => host(rt, rest),
         [command, rest @ ..] if command.as_str() == "run" => run(rt, rest),
-        _ => Err(Stop::Misused(Misuse::Usage)),
+        _ => Err(Stop::Misused(misused_words(words))),
     }
 }
 
@@ -405,7 +462,10 @@ fn main(rt: HostRuntime) -> anyhow::Result<ExitCode> {
         Ok(()) => return Ok(ExitCode::SUCCESS),
         Err(Stop::Refused(text)) => rt.print(text)?,
         Err(Stop::Misused(misuse)) => eprintln!(&rt; "{misuse}")?,
-        Err(Stop::Failed(error)) => return Err(error),
+        Err(Stop::NoMemory) => {
+            eprintln!(&rt; "memory has run out: take fewer steps, or give the program more")?
+        }
+        Err(Stop::Unprinted(error)) => eprintln!(&rt; "cannot write standard output: {error}")?,
     }
     Ok(ExitCode::FAILURE)
 }
