@@ -1,11 +1,10 @@
 -- An order that no rule refuses can be worked on the records, and what it leaves is a table again. Assumes nothing.
-use Rattle.std.proofs.Common.{◌≡◌, ℕ, ◌≤◌, Bool, false, List, Some, None, Option, sym, refl, subst, arith}
+use Rattle.std.proofs.Common.{◌≡◌, ℕ, ◌≤◌, Bool, false, List, Some, None, Option, sym, refl, subst, ◌∙◌, arith}
 use Rattle.std.proofs.lemmas.Bool.{eqb-false}
 use Rattle.model.specs.declared.order.Order.{Order}
 use Rattle.model.specs.declared.order.Order.TheVariants.{Create, Bind, Change, Unbind, Delete}
 use Rattle.model.specs.Config.{Config}
 use Rattle.model.proofs.Searches.{any_found}
-use Rattle.model.proofs.Results.{same_self}
 use Rattle.model.specs.declared.pair.Pair.{Pair}
 use Rattle.model.specs.Universe.{Universe}
 use Rattle.model.specs.Orders.{result_of}
@@ -20,6 +19,7 @@ use Rattle.table.specs.declared.limits.Limits.{Limits}
 use Rattle.table.specs.Rows.{joins, row}
 use Rattle.table.specs.Fit.{Ranged, config}
 use Rattle.table.specs.Records.{Able}
+use Rattle.table.proofs.RowSearch.{joins_self}
 use Rattle.table.specs.Table.{Held, load_of, table_rule}
 
 clear : (x : Option Offence) (f : Bool) → illegal_or x (refused_if f Full None) ≡ None → (x ≡ None) × (f ≡ false)
@@ -59,9 +59,9 @@ able (Delete z) h law room none =
 
 -- where nothing stands out of range, no port of a row is
 rows_ranged : (u : Universe) (slots : List (Option Pair)) (rows : List Row) (n : ℕ) → Lawful (record { universe = u; config = config slots rows n }) → Ranged u.ports rows n
-rows_ranged u slots rows n law i l =
+rows_ranged u slots rows n law i p l has_it =
     let b = row rows i in
-    (law.bound b.port b.provider b.requirer (any_found (λ k. joins (row rows k) b.port b.provider b.requirer) i n l (same_self b.port b.provider b.requirer))).0
+    (law.bound p b.provider b.requirer (any_found (λ k. joins (row rows k) p b.provider b.requirer) i n l (joins_self b p ∙ has_it))).0
 
 module _ (u : Universe) (c : Config) (l : Limits) (o : Order) (law : Lawful (record { universe = u; config = c })) (none : table_rule o (record { situation = record { universe = u; config = c }; limits = l }) ≡ None) where
   -- the rows after the order

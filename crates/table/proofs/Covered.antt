@@ -1,8 +1,9 @@
 -- What the counts of covers are after each order. Assumes nothing.
-use Rattle.std.proofs.Common.{◌≡◌, ℕ, ◌+◌, ◌*◌, ◌<◌, ◌≤◌, true, false, ◌&&◌, List, replicate, None, Option, Some, sym, ap, ◌∙◌, inl, inr, refl, arith}
-use mathlib.Core.Bool.{and-false}
-use Rattle.std.proofs.lemmas.Bool.{cases_eq, cases_lt, lt-ltb, le-ltb}
+use Rattle.std.proofs.Common.{◌≡◌, ℕ, ◌+◌, ◌*◌, ◌<◌, ◌≤◌, true, false, ◌&&◌, eqb, List, replicate, None, Option, Some, sym, ap, ◌∙◌, inl, inr, refl, arith}
+use mathlib.Core.Bool.{and-false, and-true}
+use Rattle.std.proofs.lemmas.Bool.{cases_eq, cases_lt, eq-eqb, lt-ltb, le-ltb}
 use Rattle.std.proofs.lemmas.List.{get_or-replicate}
+use Rattle.model.specs.declared.binding.Binding.{Binding}
 use Rattle.model.specs.declared.pair.Pair.{Pair}
 use Rattle.model.specs.declared.order.Order.TheVariants.{Create, Bind, Change, Unbind, Delete}
 use Rattle.model.specs.Search.{one}
@@ -11,12 +12,10 @@ use Rattle.model.specs.Config.{Config, empty, moved, pair, provided}
 use Rattle.model.specs.Orders.{result_of}
 use Rattle.model.specs.Bounded.{covers}
 use Rattle.model.proofs.Searches.{refuted}
-use Rattle.model.proofs.CoverCounts.{covers_least, covers_most, create_covers, change_covers, delete_covers, deleted_covers, bind_covers, unbind_covers, covers_none}
+use Rattle.model.proofs.CoverCounts.{covers_least, covers_most, create_covers, change_covers, delete_covers, deleted_covers, bind_covers, unbind_covers, covers_none, serves}
 use Rattle.universe.specs.Sets.{has}
 use Rattle.universe.proofs.Checked.{has_zero}
-use Rattle.table.specs.declared.row.Row.{Row}
-use Rattle.table.specs.Rows.{binding_of, joins}
-use Rattle.table.specs.Covers.{by_provider, by_row, count, count_within, Counted, Ready, Recounted, Cleared, provides}
+use Rattle.table.specs.Covers.{by_port, by_provider, count, count_within, Counted, Ready, Recounted, Cleared, provides}
 
 module _ (u : Universe) (c : Config) (xs : List ℕ) (counted : Counted u c xs) where
   -- a count is at least one where some provider covers, and at most 256
@@ -86,29 +85,35 @@ module _ (u : Universe) (c : Config) (xs : List ℕ) (counted : Counted u c xs) 
           ];
     }
 
-  module _ (ys : List ℕ) (b : Row) (set : ℕ) (is : (p : ℕ) → has 32 set p ≡ provides u (c.inst b.provider) p) where
-    -- a bind: its row counts now, if its provider provides the port; an unbind: it counts no more
-    pub bound_counted : c.bound b.port b.provider b.requirer ≡ false →
-        Recounted xs ys (by_row b (has 32 0)) (by_row b (has 32 set))
-        → Counted u (result_of (Bind (binding_of b)) c) ys
-    unfolding by_row provides
+  module _ (ys : List ℕ) (j : Binding) (low : j.provider < 256) (set : ℕ) (is : (p : ℕ) → has 32 set p ≡ provides u (c.inst j.provider) p) where
+    -- the port of a binding is that of its requirer
+    serves_at : (p y : ℕ) → serves u c j y p ≡ by_port j.port j.requirer (has 32 set) p y
+    unfolding by_port provides
+    serves_at p y = rw (eq-eqb j.provider j.provider refl, is p, and-true (eqb j.port p)) refl
+
+    none_at : (p y : ℕ) → by_port j.port j.requirer (has 32 0) p y ≡ false
+    unfolding by_port
+    none_at p y = rw (has_zero 32 p) (and-false (eqb j.port p && eqb j.requirer y))
+
+    -- a bind: it counts now, if its provider provides the port; an unbind: it counts no more
+    pub bound_counted : c.bound j.port j.provider j.requirer ≡ false →
+        Recounted xs ys (by_port j.port j.requirer (has 32 0)) (by_port j.port j.requirer (has 32 set))
+        → Counted u (result_of (Bind j) c) ys
     bound_counted new recounted = record {
       at = λ p y lp ly.
-          let t = rw (has_zero 32 p, and-false (joins b p b.provider y), is p) at (recounted.at p y lp ly) in
-          omega (arith, t, counted.at p y lp ly, bind_covers 256 u c (binding_of b) b.in_range.1 y p new);
+          let t = rw (none_at p y, ← serves_at p y) at (recounted.at p y lp ly) in
+          omega (arith, t, counted.at p y lp ly, bind_covers 256 u c j low y p new);
     }
 
-    pub unbound_counted : c.bound b.port b.provider b.requirer ≡ true →
-        Recounted xs ys (by_row b (has 32 set)) (by_row b (has 32 0))
-        → Counted u (result_of (Unbind (binding_of b)) c) ys
-    unfolding by_row provides
+    pub unbound_counted : c.bound j.port j.provider j.requirer ≡ true →
+        Recounted xs ys (by_port j.port j.requirer (has 32 set)) (by_port j.port j.requirer (has 32 0))
+        → Counted u (result_of (Unbind j) c) ys
     unbound_counted was recounted = record {
       at = λ p y lp ly.
-          let t = rw (has_zero 32 p, and-false (joins b p b.provider y), is p) at (recounted.at p y lp ly) in
-          omega (arith, t, counted.at p y lp ly, unbind_covers 256 u c (binding_of b) b.in_range.1 y p was);
+          let t = rw (none_at p y, ← serves_at p y) at (recounted.at p y lp ly) in
+          omega (arith, t, counted.at p y lp ly, unbind_covers 256 u c j low y p was);
     }
 
--- the rows of an instance were recounted from a set to another, and so from what it provides to something else
 module _ (u : Universe) (c : Config) (z a b : ℕ) (s t : Option Pair) (before : (p : ℕ) → has 32 a p ≡ provides u s p) (after : (p : ℕ) → has 32 b p ≡ provides u t p) (xs ys : List ℕ) where
   pub recounted_slot : Recounted xs ys (by_provider c z (has 32 a)) (by_provider c z (has 32 b)) →
       Recounted xs ys (by_provider c z (provides u s)) (by_provider c z (provides u t))

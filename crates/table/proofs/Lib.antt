@@ -1,6 +1,9 @@
-pub mod RowTurns
+pub mod Ports
+pub mod PairCounts
 pub mod RowSearch
+pub mod RowTurns
 pub mod RowMoves
+pub mod RowWork
 pub mod Slots
 pub mod Performed
 pub mod Applying

@@ -1,5 +1,5 @@
 -- The work of the five orders on the records: what stands afterwards, and that the records fit. Assumes nothing.
-use Rattle.std.proofs.Common.{◌≡◌, ℕ, ◌+◌, ◌-◌, ◌<◌, ◌≤◌, true, false, not, ◌&&◌, List, length, get_or, set, replicate, Some, None, Option, sym, refl, ap, ◌∙◌, subst, arith, length-set}
+use Rattle.std.proofs.Common.{◌≡◌, ℕ, ◌+◌, ◌-◌, ◌<◌, ◌≤◌, Bool, true, false, not, ◌&&◌, ◌||◌, List, length, get_or, set, replicate, Some, None, Option, sym, refl, ap, ◌∙◌, arith, length-set}
 use mathlib.Core.Path.{fun_ext}
 use Rattle.model.specs.declared.binding.Binding.{Binding}
 use Rattle.model.specs.declared.pair.Pair.{Pair}
@@ -8,43 +8,52 @@ use Rattle.model.specs.declared.order.Order.TheVariants.{Create, Bind, Change, U
 use Rattle.model.specs.Config.{Config, moved, pair, stands}
 use Rattle.model.specs.Orders.{put, result_of, same}
 use Rattle.model.specs.Counts.{instances, bindings}
-use Rattle.model.proofs.Results.{bind_inst, unbind_inst}
-use Rattle.model.proofs.Counting.{change_counts, create_counts, delete_counts, instances_most, instances_none, instances_same}
-use Rattle.std.proofs.lemmas.Bool.{both_ways}
+use Rattle.model.proofs.Searches.{any_none}
+use Rattle.model.proofs.Results.{bind_at, bind_inst, bind_off, change_bound, create_bound, unbind_at, unbind_inst, unbind_off}
+use Rattle.model.proofs.Counting.{bindings_more, bindings_none, bindings_same, change_counts, create_counts, delete_counts, instances_most, instances_none, instances_same}
 use Rattle.table.specs.declared.row.Row.{Row}
-use Rattle.table.specs.Rows.{binding_of, rank, row, joins, held, Ordered, Place, Opened, Closed, Kept}
+use Rattle.table.specs.Rows.{row, held, total, Formed, Holds, Kept}
 use Rattle.table.specs.Fit.{Fit, config, standing}
-use Rattle.table.proofs.RowSearch.{held_tells, row_count, stands_at}
-use Rattle.table.proofs.RowMoves.{held_more, ordered_more, held_less, ordered_less, held_kept}
+use Rattle.table.proofs.RowSearch.{row_count, rows_most}
+use Rattle.table.proofs.RowMoves.{held_kept}
+use Rattle.table.proofs.RowTurns.{kept_formed}
 use Rattle.table.proofs.Slots.{all_vacant, standing_within, written}
 
 -- configurations with the same instances and bindings are one
 pub alike : (c d : Config) → ((z : ℕ) → c.inst z ≡ d.inst z) → ((p x y : ℕ) → c.bound p x y ≡ d.bound p x y) → c ≡ d
 alike c d inst bound = λ i. record { inst = fun_ext inst i; bound = fun_ext (λ p. fun_ext (λ x. fun_ext (bound p x))) i }
 
-module _ (slots : List (Option Pair)) (rows : List Row) (len count : ℕ) (fit : Fit slots rows len count) where
+module _ (slots : List (Option Pair)) (rows : List Row) (len count bound : ℕ) (fit : Fit slots rows len count bound) where
   abbrev c : Config
   c = config slots rows len
 
-  -- as many bindings stand as there are rows
-  pub len_counts : len ≡ bindings 32 256 c
-  len_counts = sym (row_count (standing slots) rows len fit.ordered)
+  -- the rows hold as many bindings as stand
+  pub total_counts : total rows len ≡ bound
+  total_counts = sym (row_count (standing slots) rows len fit.formed.ordered) ∙ sym fit.bound_counted
+
+  -- no row is empty, so where there is room for a binding there is room for a row
+  pub len_most : len ≤ bindings 32 256 c
+  len_most = omega (arith, rows_most rows len fit.formed.filled, total_counts, fit.bound_counted)
 
   pub count_most : count ≤ 256
   count_most = let h = instances_most 256 c in omega (arith, fit.counted)
 
-  -- the records fit where the arrays stay full, the rows rise and the instances are counted
-  finish : (o : Order) (slots' : List (Option Pair)) (rows' : List Row) (len' count' : ℕ) → config slots' rows' len' ≡ result_of o c →
-      length slots' ≡ length slots → length rows' ≡ length rows → len' ≤ 2048 → Ordered rows' len' →
-      count' ≡ instances 256 (result_of o c) → Fit slots' rows' len' count'
-  finish o slots' rows' len' count' config' size room most ordered counts =
+  -- the records fit where the arrays stay full, the rows rise and are not empty, and instances and bindings are counted
+  finish : (o : Order) (slots' : List (Option Pair)) (rows' : List Row) (len' count' bound' : ℕ) → config slots' rows' len' ≡ result_of o c →
+      length slots' ≡ length slots → length rows' ≡ length rows → len' ≤ length rows' → Formed rows' len' →
+      count' ≡ instances 256 (result_of o c) → bound' ≡ bindings 32 256 (result_of o c) → Fit slots' rows' len' count' bound'
+  finish o slots' rows' len' count' bound' config' size room most formed counts bounds =
       record {
         sized = size ∙ fit.sized;
         room = room ∙ fit.room;
-        most = most;
-        ordered = ordered;
+        most = omega (arith, most, room, fit.room);
+        formed = formed;
         counted = counts ∙ ap (instances 256) (sym config');
+        bound_counted = bounds ∙ ap (bindings 32 256) (sym config');
       }
+
+  most_rows : len ≤ length rows
+  most_rows = omega (arith, fit.most, fit.room)
 
   module _ (z : ℕ) (low : z < 256) where
     slot_written : (s : Option Pair) (y : ℕ) → standing (set slots z s) y ≡ put (standing slots) z s y
@@ -55,10 +64,11 @@ module _ (slots : List (Option Pair)) (rows : List Row) (len count : ℕ) (fit :
       unfolding result_of
       created = alike _ _ (slot_written _) (λ p x y. refl)
 
-      pub created_fit : Fit (set slots z (Some (pair k 0))) rows len (count + 1)
+      pub created_fit : Fit (set slots z (Some (pair k 0))) rows len (count + 1) bound
       created_fit =
-          finish (Create z k) _ rows len (count + 1) created (length-set _ _ _) refl fit.most fit.ordered
+          finish (Create z k) _ rows len (count + 1) bound created (length-set _ _ _) refl most_rows fit.formed
           (ap (λ n. n + 1) fit.counted ∙ sym (create_counts 256 c z k low out))
+          (fit.bound_counted ∙ sym (bindings_same 32 256 c (result_of (Create z k) c) (create_bound c z k)))
 
     module _ (q : ℕ) (s : Option Pair) (is : s ≡ moved (get_or slots z None) q) where
       pub changed : config (set slots z s) rows len ≡ result_of (Change z q) c
@@ -67,68 +77,77 @@ module _ (slots : List (Option Pair)) (rows : List Row) (len count : ℕ) (fit :
           alike _ _ (λ y. slot_written s y ∙ ap (λ o. put (standing slots) z o y) (is ∙ ap (λ o. moved o q) (sym (standing_within slots z low))))
           (λ p x y. refl)
 
-      pub changed_fit : Fit (set slots z s) rows len count
+      pub changed_fit : Fit (set slots z s) rows len count bound
       changed_fit =
-          finish (Change z q) _ rows len count changed (length-set _ _ _) refl fit.most fit.ordered
+          finish (Change z q) _ rows len count bound changed (length-set _ _ _) refl most_rows fit.formed
           (fit.counted ∙ sym (change_counts 256 c z q))
+          (fit.bound_counted ∙ sym (bindings_same 32 256 c (result_of (Change z q) c) (change_bound c z q)))
 
     module _ (was : stands (c.inst z) ≡ true) where
       pub count_some : 0 < count
       count_some = omega (arith, fit.counted, delete_counts 256 c z low was)
 
-      module _ (ys : List Row) (m : ℕ) (size : length ys ≡ length rows) (kept : Kept rows ys len m z) where
+      module _ (ys : List Row) (m d : ℕ) (size : length ys ≡ length rows) (kept : Kept rows ys len m z d) where
         pub deleted : config (set slots z None) ys m ≡ result_of (Delete z) c
         unfolding result_of
-        deleted = alike _ _ (slot_written None) (held_kept rows ys len m z kept)
+        deleted = alike _ _ (slot_written None) (held_kept rows ys len m z d kept)
 
-        pub deleted_fit : Fit (set slots z None) ys m (count - 1)
+        -- no more go than stood
+        pub dropped_most : d ≤ bound
+        dropped_most = omega (arith, kept.counted, total_counts)
+
+        pub deleted_fit : Fit (set slots z None) ys m (count - 1) (bound - d)
         deleted_fit =
-            finish (Delete z) _ ys m (count - 1) deleted (length-set _ _ _) size (omega (arith, kept.fewer, fit.most)) kept.ordered
+            finish (Delete z) _ ys m (count - 1) (bound - d) deleted (length-set _ _ _) size (omega (arith, kept.fewer, fit.most, fit.room, size))
+            (kept_formed rows ys len m z d fit.formed kept)
             (omega (arith, fit.counted, delete_counts 256 c z low was))
+            (left ∙ ap (bindings 32 256) deleted)
+          where
+            left : bound - d ≡ bindings 32 256 (config (set slots z None) ys m)
+            left = omega (arith, kept.counted, total_counts, row_count (standing (set slots z None)) ys m kept.ordered)
 
-  -- a row, and its place
-  module _ (b : Row) (k r : ℕ) (is : k ≡ rank b) (at : Place rows len k r) where
-    module _ (ys : List Row) (size : length ys ≡ length rows) (opened : Opened rows ys r len) (room : len < 2048) (out : c.bound b.port b.provider b.requirer ≡ false) where
-      place : Place rows len (rank b) r
-      place = subst (λ n. Place rows len n r) is at
-
-      pub bound : config slots (set ys r b) (len + 1) ≡ result_of (Bind (binding_of b)) c
+  -- a binding
+  module _ (j : Binding) (range : (j.port < 32) × (j.provider < 256) × (j.requirer < 256)) (ys : List Row) (m : ℕ) (size : length ys ≡ length rows) where
+    module _ (out : c.bound j.port j.provider j.requirer ≡ false) (holds : Holds ys m (λ p x y. held rows len p x y || same j.port j.provider j.requirer p x y)) where
+      pub bound_to : config slots ys m ≡ result_of (Bind j) c
       unfolding result_of
-      bound = alike _ _ (λ z. refl) (held_more rows ys len fit.ordered b r place opened (omega (arith, fit.room)))
+      bound_to = alike _ _ (λ z. refl) holds.held
 
-      pub bound_fit : Fit slots (set ys r b) (len + 1) count
+      pub bound_fit : Fit slots ys m count (bound + 1)
       bound_fit =
-          finish (Bind (binding_of b)) slots _ (len + 1) count bound refl (length-set _ _ _ ∙ size) (omega arith)
-          (ordered_more rows ys len fit.ordered b r place opened (omega (arith, fit.room))
-          (λ a. both_ways _ out ((held_tells rows len b.port b.provider b.requirer).1 a)))
-          (fit.counted ∙ sym (instances_same 256 c (result_of (Bind (binding_of b)) c) (λ z. ap stands (bind_inst c (binding_of b) z))))
+          let more = bindings_more 32 256 c (result_of (Bind j) c) j.port j.provider j.requirer range.0 range.1 range.2 (bind_off c j) out (bind_at c j) in
+          finish (Bind j) slots ys m count (bound + 1) bound_to refl size holds.most holds.formed
+          (fit.counted ∙ sym (instances_same 256 c (result_of (Bind j) c) (λ z. ap stands (bind_inst c j z))))
+          (omega (arith, fit.bound_counted, more))
 
-    module _ (was : c.bound b.port b.provider b.requirer ≡ true) where
-      pub row_at : (r < len) × (binding_of (row rows r) ≡ binding_of b)
-      row_at = stands_at rows len fit.ordered b k r is at ((held_tells rows len b.port b.provider b.requirer).0 was)
+    module _ (was : c.bound j.port j.provider j.requirer ≡ true) where
+      less : bindings 32 256 c ≡ bindings 32 256 (result_of (Unbind j) c) + 1
+      less =
+          bindings_more 32 256 (result_of (Unbind j) c) c j.port j.provider j.requirer range.0 range.1 range.2
+          (λ p' x' y' ne. sym (unbind_off c j p' x' y' ne)) (unbind_at c j) was
 
-      module _ (ys : List Row) (size : length ys ≡ length rows) (closed : Closed rows ys r len) where
-        row_out : (p' x' y' : ℕ) → held ys (len - 1) p' x' y' ≡ (held rows len p' x' y' && not (joins b p' x' y'))
-        row_out p' x' y' =
-            held_less rows ys len fit.ordered r closed p' x' y' ∙ ap (λ (j : Binding). held rows len p' x' y' && not (same j.port j.provider j.requirer p' x' y')) row_at.1
+      pub bound_some : 0 < bound
+      bound_some = omega (arith, fit.bound_counted, less)
 
-        pub unbound : config slots ys (len - 1) ≡ result_of (Unbind (binding_of b)) c
+      module _ (holds : Holds ys m (λ p x y. held rows len p x y && not (same j.port j.provider j.requirer p x y))) where
+        pub unbound_from : config slots ys m ≡ result_of (Unbind j) c
         unfolding result_of
-        unbound = alike _ _ (λ z. refl) row_out
+        unbound_from = alike _ _ (λ z. refl) holds.held
 
-        pub unbound_fit : Fit slots ys (len - 1) count
+        pub unbound_fit : Fit slots ys m count (bound - 1)
         unbound_fit =
-            finish (Unbind (binding_of b)) slots ys (len - 1) count unbound refl size (omega (arith, fit.most))
-            (ordered_less rows ys len fit.ordered r closed)
-            (fit.counted ∙ sym (instances_same 256 c (result_of (Unbind (binding_of b)) c) (λ z. ap stands (unbind_inst c (binding_of b) z))))
+            finish (Unbind j) slots ys m count (bound - 1) unbound_from refl size holds.most holds.formed
+            (fit.counted ∙ sym (instances_same 256 c (result_of (Unbind j) c) (λ z. ap stands (unbind_inst c j z))))
+            (omega (arith, fit.bound_counted, less))
 
 -- nothing stands in new records
-pub new_fit : (rows : List Row) → length rows ≡ 2048 → Fit (replicate 256 None) rows 0 0
+pub new_fit : (rows : List Row) → length rows ≡ 2048 → Fit (replicate 256 None) rows 0 0 0
 new_fit rows size =
     record {
       sized = refl;
       room = size;
       most = omega arith;
-      ordered = λ i j a l. absurd (omega arith);
+      formed = record { ordered = λ i j a l. absurd (omega arith); filled = λ i l. absurd (omega arith) };
       counted = sym (instances_none 256 (config (replicate 256 None) rows 0) all_vacant);
+      bound_counted = sym (bindings_none 32 256 (config (replicate 256 None) rows 0) (λ p x y. any_none _));
     }

@@ -1,13 +1,15 @@
 -- The turns of the loops over rows. Assumes nothing.
-use Rattle.std.proofs.Common.{◌≡◌, ℕ, ◌+◌, ◌-◌, ◌<◌, ◌≤◌, ◌≢◌, true, false, ltb, List, length, take, get_or, set, sym, ap, ◌∙◌, inl, inr, arith}
+use Rattle.std.proofs.Common.{◌≡◌, ℕ, zero, suc, ◌+◌, ◌-◌, ◌*◌, ◌<◌, ◌≤◌, ◌≢◌, true, false, ltb, List, length, take, get_or, set, count_ones, refl, sym, ap, add-one, ◌∙◌, inl, inr, arith}
 use Rattle.std.specs.List.{CopiedTo, SameBelow}
 use Rattle.std.specs.List.Sorted.{IsNonDecreasingBy, IsPartitionPoint, IsPartitionedBy}
 use Rattle.std.proofs.lemmas.List.{get_or-set_same, get_or-set_other, get_or-take, get_or_default, length-take-le}
 use Rattle.std.proofs.lemmas.List.Sorted.{IsPartitionedBy-ltb}
+use Rattle.std.proofs.lemmas.Nat.{ones-le}
 use Rattle.std.proofs.lemmas.Bool.{cases_lt, ltb-true, ltb-false}
+use Rattle.model.specs.Search.{sum_below}
+use Rattle.model.proofs.Sums.{sum_same_below}
 use Rattle.table.specs.declared.row.Row.{Row}
-use Rattle.table.specs.Rows.{binding_of, blank, row, rank, Ordered, Place, Opened, Closed, Kept}
-use Rattle.table.proofs.RowSearch.{one_rank}
+use Rattle.table.specs.Rows.{blank, row, rank, total, Ordered, Formed, Place, Opened, Closed, Kept}
 
 -- the point at which the first n rows reach the rank k is its place
 pub partition_place : (xs : List Row) (n k r : ℕ) → n ≤ length xs → r ≤ length (take n xs) →
@@ -56,10 +58,43 @@ closed_of xs ys r n inside copied below =
       above = λ k l m. copied k blank l (omega arith) ∙ (let e : r + 1 + (k - r) ≡ k + 1 = omega arith in ap (row xs) e);
     }
 
+-- the numbers of ports of the rows that were not written are the same
+total_same : (xs ys : List Row) (n : ℕ) → ((i : ℕ) → i < n → row ys i ≡ row xs i) → total ys n ≡ total xs n
+total_same xs ys n h = sum_same_below (λ i. count_ones (row xs i).ports) (λ i. count_ones (row ys i).ports) n (λ i l. ap (λ (b : Row). count_ones b.ports) (h i l))
+
+-- with one row more its ports count
+total_more : (xs : List Row) (n : ℕ) → total xs (n + 1) ≡ total xs n + count_ones (row xs n).ports
+unfolding sum_below
+total_more xs n = rw (add-one n) refl
+
+-- a row has at most 32 ports
+total_few : (xs : List Row) (n : ℕ) → total xs n ≤ n * 32
+unfolding sum_below
+total_few xs zero = omega arith
+total_few xs (suc n) = let before = total_few xs n in let here = ones-le 32 (row xs n).ports (row xs n).in_range.2 in omega arith
+
+-- before the first row nothing is kept
+pub kept_none : (xs : List Row) (z : ℕ) → Kept xs xs 0 0 z 0
+unfolding sum_below
+kept_none xs z =
+    record {
+      fewer = omega arith;
+      from = λ j l. absurd (omega arith);
+      all = λ i l ne. absurd (omega arith);
+      ordered = λ i j a l. absurd (omega arith);
+      counted = refl;
+    }
+
 -- of the first i rows m are kept, and the row i is looked at
-module _ (xs ys : List Row) (n i m z : ℕ) (o : Ordered xs n) (li : i < n) (kept : Kept xs ys i m z) (rest : (k : ℕ) → i ≤ k → row ys k ≡ row xs k) where
+module _ (xs ys : List Row) (n i m z d : ℕ) (o : Ordered xs n) (li : i < n) (kept : Kept xs ys i m z d) (rest : (k : ℕ) → i ≤ k → row ys k ≡ row xs k) where
+  -- the ports of those that were left out are few
+  pub dropped_few : d + count_ones (row ys i).ports ≤ (i + 1) * 32
+  dropped_few =
+      let b = row ys i in
+      omega (arith, kept.counted, total_few xs i, ones-le 32 b.ports b.in_range.2)
+
   -- a row of the requirer z is left out
-  pub keep_not : (row ys i).requirer ≡ z → Kept xs ys (i + 1) m z
+  pub keep_not : (row ys i).requirer ≡ z → Kept xs ys (i + 1) m z (d + count_ones (row ys i).ports)
   keep_not is =
       record {
         fewer = omega (arith, kept.fewer);
@@ -69,6 +104,9 @@ module _ (xs ys : List Row) (n i m z : ℕ) (o : Ordered xs n) (li : i < n) (kep
           | inr ge ↦ let e : k ≡ i = omega arith in absurd (ne (ap (λ j. (row xs j).requirer) e ∙ ap (λ (b : Row). b.requirer) (sym (rest i (omega arith))) ∙ is))
         ];
         ordered = kept.ordered;
+        counted =
+            let same = ap (λ (b : Row). count_ones b.ports) (rest i (omega arith)) in
+            omega (arith, kept.counted, total_more xs i, same);
       }
 
   -- any other row is kept
@@ -91,23 +129,34 @@ module _ (xs ys : List Row) (n i m z : ℕ) (o : Ordered xs n) (li : i < n) (kep
               let lj : j < m = omega arith in
               let f = (kept.from j lj).0 in
               let r = o f.0 i f.1 li in
-              rw (e, new, old j lj, ← one_rank (row xs f.0) (row ys j) f.2) r
+              rw (e, new, old j lj, ← f.2) r
         ]
 
-    pub keep_one : Kept xs after (i + 1) (m + 1) z
+    pub keep_one : Kept xs after (i + 1) (m + 1) z d
     keep_one =
         record {
           fewer = omega (arith, kept.fewer);
           from = λ j l. elim (cases_lt j m) [
-            | inl lt ↦ let r = kept.from j lt in ((r.0.0, omega (arith, r.0.1), r.0.2 ∙ ap binding_of (sym (old j lt))), rw (old j lt) r.1)
-            | inr ge ↦ let e : j ≡ m = omega arith in ((i, omega arith, ap binding_of (sym (ap (row after) e ∙ new))), rw (e, new, ← rest i (omega arith)) ne)
+            | inl lt ↦ let r = kept.from j lt in ((r.0.0, omega (arith, r.0.1), r.0.2 ∙ sym (old j lt)), rw (old j lt) r.1)
+            | inr ge ↦ let e : j ≡ m = omega arith in ((i, omega arith, sym (ap (row after) e ∙ new)), rw (e, new, ← rest i (omega arith)) ne)
           ];
           all = λ k l other. elim (cases_lt k i) [
-            | inl lt ↦ let r = kept.all k lt other in (r.0, omega (arith, r.1), ap binding_of (old r.0 r.1) ∙ r.2)
-            | inr ge ↦ let e : k ≡ i = omega arith in (m, omega arith, ap binding_of (new ∙ ap (row xs) (sym e)))
+            | inl lt ↦ let r = kept.all k lt other in (r.0, omega (arith, r.1), old r.0 r.1 ∙ r.2)
+            | inr ge ↦ let e : k ≡ i = omega arith in (m, omega arith, new ∙ ap (row xs) (sym e))
           ];
           ordered = rises;
+          counted =
+              let same = ap (λ (b : Row). count_ones b.ports) new in
+              omega (arith, kept.counted, total_more xs i, total_more after m, total_same ys after m old, same);
         }
 
     pub keep_rest : (k : ℕ) → i + 1 ≤ k → row after k ≡ row xs k
     keep_rest k l = get_or-set_other ys m k (row ys i) blank (omega (arith, kept.fewer)) ∙ rest k (omega arith)
+
+-- the rows that are kept are not empty either
+pub kept_formed : (xs ys : List Row) (n m z d : ℕ) → Formed xs n → Kept xs ys n m z d → Formed ys m
+kept_formed xs ys n m z d formed kept =
+    record {
+      ordered = kept.ordered;
+      filled = λ j l none. let f = (kept.from j l).0 in formed.filled f.0 f.1 (ap (λ (b : Row). b.ports) f.2 ∙ none);
+    }

@@ -1,10 +1,11 @@
 -- Counts of the bindings that cover each port, and what the work on them leaves.
-use Rattle.std.specs.Prelude.{◌≡◌, ℕ, ◌+◌, ◌*◌, ◌<◌, ◌≤◌, Bool, cond, ◌&&◌, List, Option, length, nat_lt, slice_index}
+use Rattle.std.specs.Prelude.{◌≡◌, ℕ, ◌+◌, ◌*◌, ◌<◌, ◌≤◌, Bool, true, cond, ◌&&◌, ◌==◌, List, Option, length, nat_lt, slice_index}
 use Rattle.model.specs.declared.pair.Pair.{Pair}
 use Rattle.model.specs.Search.{one}
 use Rattle.model.specs.Universe.{Universe}
 use Rattle.model.specs.Config.{Config, provided}
 use Rattle.model.specs.Bounded.{covers}
+use Rattle.universe.specs.Sets.{has}
 use Rattle.table.specs.declared.row.Row.{Row}
 use Rattle.table.specs.Rows.{row, joins, held, Ordered}
 
@@ -24,15 +25,23 @@ pub record Counted (u : Universe) (c : Config) (xs : List ℕ) : Type 0 where
 unfoldable pub provides : Universe → Option Pair → ℕ → Bool
 provides u o p = provided u p o
 
--- the row is the binding on the port p to y, and its provider has p by f
+-- the port p is q, the requirer y is z, and p passes
+unfoldable pub by_port : ℕ → ℕ → (ℕ → Bool) → ℕ → ℕ → Bool
+by_port q z f p y = q == p && z == y && f p
+
+-- the row is to y and has the port p, and p passes
 unfoldable pub by_row : Row → (ℕ → Bool) → ℕ → ℕ → Bool
 by_row b f p y = joins b p b.provider y && f p
 
--- one of the first n rows is the binding on the port p from z to y, and z has p by f
+-- the same for the ports below n
+unfoldable pub by_row_below : ℕ → Row → (ℕ → Bool) → ℕ → ℕ → Bool
+by_row_below n b f p y = nat_lt p n && by_row b f p y
+
+-- one of the first n rows is from z to y and has the port p, and p passes
 unfoldable pub by_rows : List Row → ℕ → ℕ → (ℕ → Bool) → ℕ → ℕ → Bool
 by_rows xs n z f p y = held xs n p z y && f p
 
--- the binding on the port p from z to y stands, and z has p by f
+-- the binding on the port p from z to y stands, and p passes
 unfoldable pub by_provider : Config → ℕ → (ℕ → Bool) → ℕ → ℕ → Bool
 by_provider c z f p y = c.bound p z y && f p
 
@@ -40,6 +49,11 @@ by_provider c z f p y = c.bound p z y && f p
 pub record Ready (xs : List ℕ) (f : ℕ → ℕ → Bool) : Type 0 where
   pub least : (p y : ℕ) → p < 32 → y < 256 → one (f p y) ≤ count xs p y
   pub room : (p y : ℕ) → p < 32 → y < 256 → count xs p y < 65535
+
+-- the same at the ports of the row
+pub record ReadyRow (xs : List ℕ) (b : Row) (f : ℕ → Bool) : Type 0 where
+  pub least : (p : ℕ) → has 32 b.ports p ≡ true → one (f p) ≤ count xs p b.requirer
+  pub room : (p : ℕ) → has 32 b.ports p ≡ true → count xs p b.requirer < 65535
 
 -- where f passes the count is one less, and where g passes one more
 pub record Recounted (xs ys : List ℕ) (f g : ℕ → ℕ → Bool) : Type 0 where

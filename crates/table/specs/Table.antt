@@ -1,13 +1,13 @@
 -- What a table means, and what an order does to it.
-use Rattle.std.specs.Prelude.{ℕ, ◌-◌, Some, None, Ok, Err, Option, Result}
+use Rattle.std.specs.Prelude.{ℕ, ◌-◌, ◌&&◌, ◌==◌, Some, None, Ok, Err, Option, Result}
 use Rattle.std.proofs.Common.{arith}
-use Rattle.std.proofs.lemmas.Bool.{le-ltb}
+use Rattle.std.proofs.lemmas.Bool.{and_parts, eqb-true, le-ltb}
 use Rattle.model.specs.declared.order.Order.{Order}
 use Rattle.universe.proofs.Sounds.{sound}
 use Rattle.model.specs.Orders.{result_of}
 use Rattle.model.proofs.Searches.{any_some}
-use Rattle.model.proofs.Results.{same_true}
 use Rattle.universe.specs.Held.{universe_in}
+use Rattle.universe.specs.Sets.{has}
 use Rattle.hosts.specs.declared.refusal.Reason.{Reason}
 use Rattle.hosts.specs.declared.refusal.Reason.TheVariants.{Full}
 use Rattle.hosts.specs.Survey.{Situation, Lawful, instances_of, bindings_of}
@@ -65,7 +65,9 @@ lawful_of t =
       bound = λ p x y b.
           let r = t.records in
           let f = any_some (λ i. joins (row r.rows i) p x y) r.len b in
-          let e = same_true (row r.rows f.0).port (row r.rows f.0).provider (row r.rows f.0).requirer p x y f.2 in
-          let k = (row r.rows f.0).in_range in
-          (omega (arith, e.0, t.ranged f.0 f.1), omega (arith, e.1, k), omega (arith, e.2, k));
+          let j = row r.rows f.0 in
+          let k = j.in_range in
+          let ends = and_parts (has 32 j.ports p && j.provider == x) (j.requirer == y) f.2 in
+          let from = and_parts (has 32 j.ports p) (j.provider == x) ends.0 in
+          (t.ranged f.0 p f.1 from.0, omega (arith, eqb-true _ _ from.1, k), omega (arith, eqb-true _ _ ends.1, k));
     }

@@ -1,17 +1,17 @@
 // What the counts of covers tell, and the work of the orders on them. The records are those before the order.
-ghost use Rattle.std.specs.Prelude.{◌≡◌, ℕ, ◌+◌, ◌*◌, ◌<◌, ◌≤◌, ◌&&◌, ◌⊎◌, length, slice_index, true, false};
+ghost use Rattle.std.specs.Prelude.{◌≡◌, ℕ, ◌+◌, ◌<◌, ◌≤◌, ◌⊎◌, length, slice_index, true, false};
 ghost use Rattle.model.specs.declared.order.Order.TheVariants.{Create, Bind, Change, Unbind, Delete};
 ghost use Rattle.model.specs.Search.{one};
 ghost use Rattle.model.specs.Orders.{result_of};
 ghost use Rattle.universe.specs.Sets.{has};
 ghost use Rattle.universe.specs.Held.{universe_in};
-ghost use Rattle.table.specs.Rows.{binding_of, joins};
 ghost use Rattle.table.specs.Records.{Able, config_of};
-ghost use Rattle.table.specs.Covers.{Cleared, Counted, Ready, Recounted, by_provider, by_row, count, count_within, provides};
+ghost use Rattle.table.specs.Covers.{Cleared, Counted, Ready, ReadyRow, Recounted, by_port, by_provider, by_row, count, count_within, provides};
 
 use crate::covers::Covers;
 use crate::records::Records;
 use crate::row::Row;
+use model::binding::Binding;
 use model::order::Order;
 use model::pair::Pair;
 use universe::held::Universe;
@@ -58,18 +58,41 @@ impl Covers {
         u32::from(self.counts[requirer as usize * 32 + port as usize])
     }
 
-    // The provider of the row provided one set of ports, and provides another: so the row may cover its port no more, or
+    // A provider of the requirer provided one set of ports, and provides another: so it may cover this port no more, or
     // cover it now.
-    #[tactic(auto, unfolding(crate::specs::Covers::by_row, crate::specs::Covers::count))]
-    fn recount(&mut self, row: Row, before: u32, after: u32)
-        requires counted { one (has 32 before row.port) ≤ count self.old.counts row.port row.requirer }
-        requires room { count self.old.counts row.port row.requirer < 65535 }
-        ensures { Recounted self.old.counts self.new.counts (by_row row (has 32 before)) (by_row row (has 32 after)) }
+    #[tactic(auto, unfolding(crate::specs::Covers::by_port, crate::specs::Covers::count))]
+    fn recount_port(&mut self, port: u32, requirer: u32, before: u32, after: u32)
+        requires low { (port < 32) × (requirer < 256) }
+        requires counted { one (has 32 before port) ≤ count self.old.counts port requirer }
+        requires room { count self.old.counts port requirer < 65535 }
+        ensures { Recounted self.old.counts self.new.counts (by_port port requirer (has 32 before)) (by_port port requirer (has 32 after)) }
     {
-        let port = u32::from(row.port);
-        let place = usize::from(row.requirer) * 32 + usize::from(row.port);
+        let place = requirer as usize * 32 + port as usize;
         let others = self.counts[place] - u16::from(before.has(port));
         self.counts[place] = others + u16::from(after.has(port));
+    }
+
+    // The same for each port of the row.
+    fn recount_ports(&mut self, row: Row, before: u32, after: u32)
+        requires { ReadyRow self.old.counts row (has 32 before) }
+        ensures { Recounted self.old.counts self.new.counts (by_row row (has 32 before)) (by_row row (has 32 after)) }
+    {
+        for port in 0..32 {
+            if row.ports.has(port) {
+                self.recount_port(port, u32::from(row.requirer), before, after);
+            }
+        }
+    }
+
+    // The same, where some port of the row is gained or lost.
+    #[tactic(auto, using(crate::proofs::CoverTurns::recounted_alike))]
+    fn recount(&mut self, row: Row, before: u32, after: u32)
+        requires { ReadyRow self.old.counts row (has 32 before) }
+        ensures { Recounted self.old.counts self.new.counts (by_row row (has 32 before)) (by_row row (has 32 after)) }
+    {
+        if row.ports & before != row.ports & after {
+            self.recount_ports(row, before, after);
+        }
     }
 
     // The same for each row of the provider.
@@ -128,24 +151,26 @@ impl Covers {
 
     // A binding more.
     #[tactic(auto, using(crate::proofs::Covered::bound_counted, crate::proofs::Covered::counted_room, crate::proofs::Covered::none_least))]
-    fn bind(&mut self, universe: &Universe, records: &Records, row: Row)
-        requires unbound { (config_of records.now).bound row.port row.provider row.requirer ≡ false }
+    fn bind(&mut self, universe: &Universe, records: &Records, binding: Binding)
+        requires range { (binding.port < 32) × (binding.provider < 256) × (binding.requirer < 256) }
+        requires unbound { (config_of records.now).bound binding.port binding.provider binding.requirer ≡ false }
         requires counted { Counted (universe_in universe.now) (config_of records.now) self.old.counts }
-        ensures { Counted (universe_in universe.now) (result_of (Bind (binding_of row)) (config_of records.now)) self.new.counts }
+        ensures { Counted (universe_in universe.now) (result_of (Bind binding) (config_of records.now)) self.new.counts }
     {
-        let now = provided(universe, records.at(u32::from(row.provider)));
-        self.recount(row, 0, now);
+        let now = provided(universe, records.at(binding.provider));
+        self.recount_port(binding.port, binding.requirer, 0, now);
     }
 
     // A binding less.
     #[tactic(auto, using(crate::proofs::Covered::unbound_counted, crate::proofs::Covered::counted_room))]
-    fn unbind(&mut self, universe: &Universe, records: &Records, row: Row)
-        requires bound { (config_of records.now).bound row.port row.provider row.requirer ≡ true }
+    fn unbind(&mut self, universe: &Universe, records: &Records, binding: Binding)
+        requires range { (binding.port < 32) × (binding.provider < 256) × (binding.requirer < 256) }
+        requires bound { (config_of records.now).bound binding.port binding.provider binding.requirer ≡ true }
         requires counted { Counted (universe_in universe.now) (config_of records.now) self.old.counts }
-        ensures { Counted (universe_in universe.now) (result_of (Unbind (binding_of row)) (config_of records.now)) self.new.counts }
+        ensures { Counted (universe_in universe.now) (result_of (Unbind binding) (config_of records.now)) self.new.counts }
     {
-        let now = provided(universe, records.at(u32::from(row.provider)));
-        self.recount(row, now, 0);
+        let now = provided(universe, records.at(binding.provider));
+        self.recount_port(binding.port, binding.requirer, now, 0);
     }
 
     // An instance less, and with it the bindings of which it is the requirer.
@@ -168,11 +193,11 @@ impl Covers {
             Order::Create { instance, kind } => {
                 self.create(universe, records, instance, kind as u8);
             }
-            Order::Bind(binding) => self.bind(universe, records, Row::of(binding)),
+            Order::Bind(binding) => self.bind(universe, records, binding),
             Order::Change { instance, state } => {
                 self.change(universe, records, instance, state as u8);
             }
-            Order::Unbind(binding) => self.unbind(universe, records, Row::of(binding)),
+            Order::Unbind(binding) => self.unbind(universe, records, binding),
             Order::Delete { instance } => self.delete(universe, records, instance),
         }
     }

@@ -1,37 +1,49 @@
-// What a row tells, and the moves of rows in rising order of provider, requirer and port.
-ghost use Rattle.std.specs.Prelude.{◌≡◌, ◌<◌, ◌≤◌, ◌==◌, length};
-ghost use Rattle.table.specs.Rows.{binding_of, rank as rank_of, Closed, Kept, Opened, Ordered};
+// What a row tells, and the moves of rows in rising order of provider and requirer.
+ghost use Rattle.std.specs.Prelude.{◌≡◌, ℕ, ◌+◌, ◌*◌, ◌<◌, ◌≤◌, not, ◌&&◌, ◌||◌, ◌==◌, length, true};
+ghost use Rattle.model.specs.Orders.{same};
+ghost use Rattle.universe.specs.Sets.{has};
+ghost use Rattle.table.specs.Rows.{rank as rank_of, held, row, Closed, Formed, Gives, Holds, Kept, Opened, Place};
 
 use crate::row::Row;
 use model::binding::Binding;
+use universe::sets::Field;
 
 // What each row holds at first.
 pub(crate) const BLANK_ROW: Row = Row {
     provider: 0,
     requirer: 0,
-    port: 0,
+    ports: 0,
 };
 
+// The packed set of one port.
+#[tactic(auto, using(crate::proofs::Ports::has_single))]
+fn single(port: u32) -> u32
+    requires { port < 32 }
+    ensures { (p : ℕ) → has 32 result p ≡ (port == p) }
+{
+    1 << (31 - port)
+}
+
 impl Row {
-    // The row of a binding whose numbers are in range. With `TryFrom` the work of an order would have an error that cannot
-    // come.
+    // The row of one binding, whose numbers are in range. With `TryFrom` the work of an order would have an error that
+    // cannot come.
     pub(crate) fn of(binding: Binding) -> Row
-        requires { (binding.port < 32) × ((binding.provider < 256) × (binding.requirer < 256)) }
-        ensures { binding_of result ≡ binding }
+        requires { (binding.port < 32) × (binding.provider < 256) × (binding.requirer < 256) }
+        ensures { Gives result binding.provider binding.requirer (λ p. binding.port == p) }
     {
         Row {
             provider: binding.provider as u8,
             requirer: binding.requirer as u8,
-            port: binding.port as u8,
+            ports: single(binding.port),
         }
     }
 
-    // Its number in the order of the rows: by provider, then by requirer, then by port. A derived `Ord` would say the same,
-    // and is no plainer: the definitions tell the order of rows by one number, and so does the code.
+    // Its number in the order of the rows: by provider, then by requirer. A derived `Ord` would say the same, and is no
+    // plainer: the definitions tell the order of rows by one number, and so does the code.
     pub fn rank(self) -> u32
         ensures { result ≡ rank_of self }
     {
-        u32::from(self.provider) * 8192 + u32::from(self.requirer) * 32 + u32::from(self.port)
+        u32::from(self.provider) * 256 + u32::from(self.requirer)
     }
 
     // Whether its provider is this instance.
@@ -47,14 +59,32 @@ impl Row {
     {
         self.requirer == instance
     }
+
+    // One port more.
+    #[tactic(auto, using(crate::proofs::Ports::has_or))]
+    fn add(&mut self, port: u32)
+        requires { port < 32 }
+        ensures { Gives self.new self.old.provider self.old.requirer (λ p. has 32 self.old.ports p || (port == p)) }
+    {
+        self.ports |= single(port);
+    }
+
+    // One port less.
+    #[tactic(auto, using(crate::proofs::Ports::has_and_not))]
+    fn remove(&mut self, port: u32)
+        requires { port < 32 }
+        ensures { Gives self.new self.old.provider self.old.requirer (λ p. has 32 self.old.ports p && not (port == p)) }
+    {
+        self.ports &= !single(port);
+    }
 }
 
-// The two moves are one call of the library each. In `bind` and `unbind` themselves, as tried, their proofs gain as many
-// lines as the code loses.
+// The two moves are one call of the library each. In the functions below, as tried, their proofs gain as many lines as the
+// code loses.
 
 // Moves the rows from `at` on up by one place.
 #[tactic(auto, using(crate::proofs::RowTurns::opened_of))]
-pub(crate) fn open_at(rows: &mut [Row], at: usize, len: usize)
+fn open_at(rows: &mut [Row], at: usize, len: usize)
     requires { (at ≤ len) × (len < length rows.old) }
     ensures opened { Opened rows.old rows.new at len }
     ensures size { length rows.new ≡ length rows.old }
@@ -64,7 +94,7 @@ pub(crate) fn open_at(rows: &mut [Row], at: usize, len: usize)
 
 // Moves the rows behind `at` down by one place.
 #[tactic(auto, using(crate::proofs::RowTurns::closed_of))]
-pub(crate) fn close_at(rows: &mut [Row], at: usize, len: usize)
+fn close_at(rows: &mut [Row], at: usize, len: usize)
     requires { (at < len) × (len ≤ length rows.old) }
     ensures closed { Closed rows.old rows.new at len }
     ensures size { length rows.new ≡ length rows.old }
@@ -72,21 +102,69 @@ pub(crate) fn close_at(rows: &mut [Row], at: usize, len: usize)
     rows.copy_within(at + 1..len, at);
 }
 
-// Leaves out those of the first `len` rows whose requirer is the instance, and answers how many are left at the front.
+// Puts a binding in at its place: its port into the row that is there, or else a row of its own. Answers how many rows are
+// in use then.
+pub(crate) fn put_in(rows: &mut [Row], len: usize, at: usize, binding: Binding) -> usize
+    requires range { (binding.port < 32) × (binding.provider < 256) × (binding.requirer < 256) }
+    requires room { len < length rows.old }
+    requires formed { Formed rows.old len }
+    requires place { Place rows.old len (binding.provider * 256 + binding.requirer) at }
+    ensures holds { Holds rows.new result (λ p x y. held rows.old len p x y || same binding.port binding.provider binding.requirer p x y) }
+    ensures size { length rows.new ≡ length rows.old }
+{
+    let row = Row::of(binding);
+    if at < len && rows[at].rank() == row.rank() {
+        rows[at].add(binding.port);
+        return len;
+    }
+    open_at(rows, at, len);
+    rows[at] = row;
+    len + 1
+}
+
+// Takes a binding out, whose port the row at its place has: the port from the row, and the row if nothing is left of it.
+// Answers how many rows are in use then.
+pub(crate) fn take_out(rows: &mut [Row], len: usize, at: usize, binding: Binding) -> usize
+    requires range { (binding.port < 32) × (binding.provider < 256) × (binding.requirer < 256) }
+    requires in_bounds { (at < len) × (len ≤ length rows.old) }
+    requires formed { Formed rows.old len }
+    requires place { rank_of (row rows.old at) ≡ binding.provider * 256 + binding.requirer }
+    ensures holds { Holds rows.new result (λ p x y. held rows.old len p x y && not (same binding.port binding.provider binding.requirer p x y)) }
+    ensures size { length rows.new ≡ length rows.old }
+{
+    rows[at].remove(binding.port);
+    if rows[at].ports != 0 {
+        return len;
+    }
+    close_at(rows, at, len);
+    len - 1
+}
+
+// How many rows are left at the front, and how many bindings went with the others.
+#[derive(Drop)]
+pub(crate) struct Left {
+    pub(crate) len: usize,
+    pub(crate) dropped: u32,
+}
+
+// Leaves out those of the first `len` rows whose requirer is the instance.
 // Only a `Vec` has `retain`, so the places are counted here. It takes the array and the number, since
 // `&mut self.rows[..self.len]` cannot be lent yet by a struct with a ghost field (the borrow checker has no rule for it).
-pub(crate) fn keep_others(rows: &mut [Row], len: usize, instance: u8) -> usize
-    requires in_bounds { len ≤ length rows.old }
-    requires ordered { Ordered rows.old len }
-    ensures { Kept rows.old rows.new len result instance }
+pub(crate) fn keep_others(rows: &mut [Row], len: usize, instance: u8) -> Left
+    requires in_bounds { (len ≤ length rows.old) × (len ≤ 2048) }
+    requires formed { Formed rows.old len }
+    ensures { Kept rows.old rows.new len result.len instance result.dropped }
 {
     let mut left = 0;
+    let mut dropped = 0;
     for i in 0..len {
         let row = rows[i];
-        if !row.ends_at(instance) {
+        if row.ends_at(instance) {
+            dropped += row.ports.count_ones();
+        } else {
             rows[left] = row;
             left += 1;
         }
     }
-    left
+    Left { len: left, dropped }
 }

@@ -1,20 +1,21 @@
 // What the records tell, and the work of the orders on them.
-ghost use Rattle.std.specs.Prelude.{◌≡◌, ◌<◌, take, true, false};
+ghost use Rattle.std.specs.Prelude.{◌≡◌, ◌<◌, ◌*◌, ◌+◌, take, true, false};
 ghost use Rattle.model.specs.declared.order.Order.TheVariants.{Create, Bind, Change, Unbind, Delete};
 ghost use Rattle.model.specs.Config.{empty, stands};
 ghost use Rattle.model.specs.Counts.{instances, bindings};
 ghost use Rattle.model.specs.Orders.{result_of};
 ghost use Rattle.hosts.specs.Offences.{provider_test};
-ghost use Rattle.table.specs.Rows.{Place, binding_of};
+ghost use Rattle.table.specs.Rows.{Place};
 ghost use Rattle.table.specs.Records.{Able, config_of};
 ghost use Rattle.table.specs.Covers.{RowsFrom};
 
 use crate::records::Records;
 use crate::row::Row;
-use crate::rows::{BLANK_ROW, close_at, keep_others, open_at};
+use crate::rows::{BLANK_ROW, keep_others, put_in, take_out};
 use model::binding::Binding;
 use model::order::Order;
 use model::pair::Pair;
+use universe::sets::Field;
 
 impl Records {
     // Nothing stands.
@@ -27,6 +28,7 @@ impl Records {
             rows: [BLANK_ROW; 2048],
             len: 0,
             count: 0,
+            bindings: 0,
         }
     }
 
@@ -47,11 +49,10 @@ impl Records {
     }
 
     // How many bindings stand.
-    #[tactic(auto, using(crate::proofs::Performed::len_counts))]
     pub(crate) fn bindings(&self) -> u32
         ensures { result ≡ bindings 32 256 (config_of self.now) }
     {
-        self.len as u32
+        self.bindings
     }
 
     // The rows that are in use.
@@ -80,7 +81,7 @@ impl Records {
         let place = self.place_of(rank);
         self.used_rows()
             .get(place)
-            .is_some_and(|row| row.rank() == rank)
+            .is_some_and(|row| row.rank() == rank && row.ports.has(binding.port))
     }
 
     // Whether some binding has this instance as its provider.
@@ -91,7 +92,7 @@ impl Records {
         if instance > 255 {
             return false;
         }
-        let place = self.place_of(instance * 8192);
+        let place = self.place_of(instance * 256);
         self.used_rows()
             .get(place)
             .is_some_and(|row| row.starts_at(instance))
@@ -103,8 +104,8 @@ impl Records {
         requires { instance < 256 }
         ensures { RowsFrom (config_of self.now) instance result.now }
     {
-        let first = self.place_of(instance * 8192);
-        let end = self.place_of((instance + 1) * 8192);
+        let first = self.place_of(instance * 256);
+        let end = self.place_of((instance + 1) * 256);
         &self.rows[first..end]
     }
 
@@ -129,37 +130,39 @@ impl Records {
     }
 
     // A binding more.
-    #[tactic(auto, using(crate::proofs::Performed::bound, crate::proofs::Performed::bound_fit, crate::proofs::Performed::len_counts))]
-    pub(crate) fn bind(&mut self, row: Row)
+    pub(crate) fn bind(&mut self, binding: Binding)
+        requires range { (binding.port < 32) × (binding.provider < 256) × (binding.requirer < 256) }
         requires room { bindings 32 256 (config_of self.old) < 2048 }
-        requires unbound { (config_of self.old).bound row.port row.provider row.requirer ≡ false }
-        ensures { config_of self.new ≡ result_of (Bind (binding_of row)) (config_of self.old) }
+        requires unbound { (config_of self.old).bound binding.port binding.provider binding.requirer ≡ false }
+        ensures { config_of self.new ≡ result_of (Bind binding) (config_of self.old) }
     {
-        let place = self.place_of(row.rank());
-        open_at(&mut self.rows, place, self.len);
-        self.rows[place] = row;
-        self.len += 1;
+        let place = self.place_of(Row::of(binding).rank());
+        self.len = put_in(&mut self.rows, self.len, place, binding);
+        self.bindings += 1;
     }
 
     // A binding less.
-    pub(crate) fn unbind(&mut self, row: Row)
-        requires { (config_of self.old).bound row.port row.provider row.requirer ≡ true }
-        ensures { config_of self.new ≡ result_of (Unbind (binding_of row)) (config_of self.old) }
+    pub(crate) fn unbind(&mut self, binding: Binding)
+        requires range { (binding.port < 32) × (binding.provider < 256) × (binding.requirer < 256) }
+        requires bound { (config_of self.old).bound binding.port binding.provider binding.requirer ≡ true }
+        ensures { config_of self.new ≡ result_of (Unbind binding) (config_of self.old) }
     {
-        let place = self.place_of(row.rank());
-        close_at(&mut self.rows, place, self.len);
-        self.len -= 1;
+        let place = self.place_of(Row::of(binding).rank());
+        self.len = take_out(&mut self.rows, self.len, place, binding);
+        self.bindings -= 1;
     }
 
     // An instance less, and with it the bindings of which it is the requirer.
-    #[tactic(auto, using(crate::proofs::Performed::count_some, crate::proofs::Performed::deleted, crate::proofs::Performed::deleted_fit))]
+    #[tactic(auto, using(crate::proofs::Performed::count_some, crate::proofs::Performed::deleted))]
     pub(crate) fn delete(&mut self, instance: u8)
         requires { stands ((config_of self.old).inst instance) ≡ true }
         ensures { config_of self.new ≡ result_of (Delete instance) (config_of self.old) }
     {
         self.slots[usize::from(instance)] = None;
         self.count -= 1;
-        self.len = keep_others(&mut self.rows, self.len, instance);
+        let left = keep_others(&mut self.rows, self.len, instance);
+        self.len = left.len;
+        self.bindings -= left.dropped;
     }
 
     // The work of an order.
@@ -169,9 +172,9 @@ impl Records {
     {
         match order {
             Order::Create { instance, kind } => self.create(instance, kind as u8),
-            Order::Bind(binding) => self.bind(Row::of(binding)),
+            Order::Bind(binding) => self.bind(binding),
             Order::Change { instance, state } => self.change(instance, state as u8),
-            Order::Unbind(binding) => self.unbind(Row::of(binding)),
+            Order::Unbind(binding) => self.unbind(binding),
             Order::Delete { instance } => self.delete(instance as u8),
         }
     }

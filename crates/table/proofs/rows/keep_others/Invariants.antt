@@ -4,5 +4,5 @@ use Rattle.table.proofs.rows.keep_others.Given as goal
 
 abbrev pub invariant-loop-i : goal.invariant-loop-i
 invariant-loop-i l =
-    Kept l.initial.rows l.rows l.i l.left l.instance ×
+    Kept l.initial.rows l.rows l.i l.left l.instance l.dropped ×
     ((k : ℕ) → l.i ≤ k → row l.rows k ≡ row l.initial.rows k)

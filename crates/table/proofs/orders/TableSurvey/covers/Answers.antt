@@ -10,4 +10,4 @@ returns c =
     let t = c.args.self.now in
     let r = t.records in
     c.at.ensures ∙ counted_within (universe_in t.universe) (config_of r) t.covers.counts t.counted
-    (λ p x y. held_within r.rows r.len r.fit.ordered p x y) c.args.port c.args.requirer
+    (λ p x y. held_within r.rows r.len r.fit.formed.ordered p x y) c.args.port c.args.requirer
