@@ -1,7 +1,6 @@
 -- The turns of the loops that count the ports of a row, and the rows of a provider, again. Assumes nothing.
-use Rattle.std.proofs.Common.{◌≡◌, ℕ, ◌+◌, ◌<◌, ◌≤◌, Bool, true, false, ◌&&◌, ◌||◌, eqb, ltb, List, length, bit_and, sym, ap, ◌∙◌, subst, refl, inl, inr, add-one, arith}
-use mathlib.Core.Bool.{and-false, false≢true}
-use Rattle.std.proofs.lemmas.Bool.{cases_Bool, cases_order, eq-eqb, le-ltb, lt-ltb, ne_eqb}
+use Rattle.std.proofs.Common.{◌≡◌, ℕ, ◌+◌, ◌<◌, ◌≤◌, Bool, true, false, ◌&&◌, ◌||◌, eqb, List, length, bit_and, sym, ap, ◌∙◌, subst, refl, inl, inr, add-one, arith}
+use Rattle.std.proofs.lemmas.Bool.{cases_order, eq-eqb, le-ltb, lt-ltb, ne_eqb}
 use Rattle.model.specs.Config.{Config}
 use Rattle.model.specs.Search.{one}
 use Rattle.model.proofs.Searches.{any_none, refuted}
@@ -12,7 +11,7 @@ use Rattle.table.specs.declared.row.Row.{Row}
 use Rattle.table.specs.Rows.{row, joins, held, Ordered}
 use Rattle.table.specs.Covers.{by_port, by_provider, by_row, by_row_below, by_rows, count, Ready, ReadyRow, RowsFrom, Recounted}
 use Rattle.table.proofs.Ports.{has_and}
-use Rattle.table.proofs.RowSearch.{any_suc, held_tells, joins_rank, joins_self, joins_tells, one_place}
+use Rattle.table.proofs.RowSearch.{any_suc, held_tells, joins_rank, joins_self, one_place}
 
 -- two recounts one after the other
 recounted_then : (xs zs ys : List ℕ) (f g f' g' f'' g'' : ℕ → ℕ → Bool) → Recounted xs zs f g → Recounted zs ys f' g' →
@@ -180,8 +179,11 @@ module _ (c : Config) (z i : ℕ) (rows : List Row) (xs zs : List ℕ) (f g : �
       record {
         least = λ p has_it. omega (arith, least_here p has_it, uncounted_yet rows (length rows) z i from.ordered from.provider li xs zs f g recounted p has_it);
         room = λ p has_it.
-            omega (arith, ready.room p here.requirer (has_below 32 here.ports p has_it) here.in_range.1,
-            uncounted_yet rows (length rows) z i from.ordered from.provider li xs zs f g recounted p has_it);
+            omega (
+              arith,
+              ready.room p here.requirer (has_below 32 here.ports p has_it) here.in_range.1,
+              uncounted_yet rows (length rows) z i from.ordered from.provider li xs zs f g recounted p has_it,
+            );
       }
 
   pub next_recounted : (ys : List ℕ) → Recounted zs ys (by_row here f) (by_row here g) → Recounted xs ys (by_rows rows (i + 1) z f) (by_rows rows (i + 1) z g)

@@ -1,6 +1,5 @@
 -- How the number of bindings moves where a provider gives a requirer a set of ports. Assumes nothing.
-use Rattle.std.proofs.Common.{◌≡◌, ℕ, zero, suc, ◌+◌, ◌<◌, Bool, true, false, ◌≢◌, refl, ap, inl, inr, arith}
-use Rattle.std.proofs.lemmas.Bool.{cases_eq}
+use Rattle.std.proofs.Common.{◌≡◌, ℕ, zero, suc, ◌+◌, ◌<◌, Bool, false, ◌≢◌, refl, ap, arith}
 use Rattle.model.specs.Search.{one, sum_below}
 use Rattle.model.specs.Config.{Config}
 use Rattle.model.specs.Counts.{bindings}

@@ -1,5 +1,5 @@
 -- The work of the five orders on the records: what stands afterwards, and that the records fit. Assumes nothing.
-use Rattle.std.proofs.Common.{◌≡◌, ℕ, ◌+◌, ◌-◌, ◌<◌, ◌≤◌, Bool, true, false, not, ◌&&◌, ◌||◌, List, length, get_or, set, replicate, Some, None, Option, sym, refl, ap, ◌∙◌, arith, length-set}
+use Rattle.std.proofs.Common.{◌≡◌, ℕ, ◌+◌, ◌-◌, ◌<◌, ◌≤◌, true, false, not, ◌&&◌, ◌||◌, List, length, get_or, set, replicate, Some, None, Option, sym, refl, ap, ◌∙◌, arith, length-set}
 use mathlib.Core.Path.{fun_ext}
 use Rattle.model.specs.declared.binding.Binding.{Binding}
 use Rattle.model.specs.declared.pair.Pair.{Pair}
@@ -12,7 +12,7 @@ use Rattle.model.proofs.Searches.{any_none}
 use Rattle.model.proofs.Results.{bind_at, bind_inst, bind_off, change_bound, create_bound, unbind_at, unbind_inst, unbind_off}
 use Rattle.model.proofs.Counting.{bindings_more, bindings_none, bindings_same, change_counts, create_counts, delete_counts, instances_most, instances_none, instances_same}
 use Rattle.table.specs.declared.row.Row.{Row}
-use Rattle.table.specs.Rows.{row, held, total, Formed, Holds, Kept}
+use Rattle.table.specs.Rows.{held, total, Formed, Holds, Kept}
 use Rattle.table.specs.Fit.{Fit, config, standing}
 use Rattle.table.proofs.RowSearch.{row_count, rows_most}
 use Rattle.table.proofs.RowMoves.{held_kept}

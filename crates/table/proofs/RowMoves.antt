@@ -1,19 +1,14 @@
 -- How ports and rows put in, taken out and left out move what the rows hold. Assumes nothing.
 use Rattle.std.proofs.Common.{◌≡◌, ℕ, ◌+◌, ◌-◌, ◌*◌, ◌<◌, ◌≤◌, Bool, true, false, not, ◌&&◌, ◌||◌, eqb, ◌≢◌, ◌⊎◌, List, length, set, Decides, refl, sym, ap, ◌∙◌, inl, inr, arith}
-use mathlib.Core.Bool.{and-true, false≢true, or-false}
+use mathlib.Core.Bool.{false≢true}
 use Rattle.std.proofs.lemmas.List.{get_or-set_same, get_or-set_other}
-use Rattle.std.proofs.lemmas.Bool.{cases_eq, cases_lt, cases_order, eq-eqb}
+use Rattle.std.proofs.lemmas.Bool.{cases_eq, cases_lt, cases_order}
 use Rattle.std.proofs.lemmas.Bool.Decides.{same_from_decides, Decides-and, Decides-eqb, Decides-like, Decides-not, Decides-or}
-use Rattle.model.specs.declared.binding.Binding.{Binding}
 use Rattle.model.specs.Orders.{same}
-use Rattle.model.proofs.Searches.{refuted}
 use Rattle.universe.specs.Sets.{has}
-use Rattle.universe.proofs.Checked.{has_zero}
 use Rattle.table.specs.declared.row.Row.{Row}
-use Rattle.table.specs.Rows.{blank, row, rank, joins, held, Among, Ordered, Formed, Gives, Holds, Place, Opened, Closed, Kept}
-use Rattle.table.proofs.Ports.{not_empty}
+use Rattle.table.specs.Rows.{blank, row, rank, joins, held, Ordered, Gives, Place, Opened, Closed, Kept}
 use Rattle.table.proofs.RowSearch.{Found, held_tells, joins_tells, joins_rank, one_place}
-use Rattle.table.proofs.RowTurns.{kept_formed}
 
 -- a row is put in at the place of its rank
 module _ (xs ys : List Row) (n : ℕ) (o : Ordered xs n) (b : Row) (r : ℕ) (at : Place xs n (rank b) r) (opened : Opened xs ys r n) (room : n < length ys) where

@@ -1,7 +1,7 @@
 -- What ordered rows hold, and what a search among them tells. Assumes nothing.
 use Rattle.std.proofs.Common.{◌≡◌, ℕ, zero, suc, ◌+◌, ◌-◌, ◌*◌, ◌<◌, ◌≤◌, Bool, true, false, ◌&&◌, ◌||◌, eqb, ltb, List, length, take, get_or, count_ones, Decides, Option, Some, None, MatchOption, Bor, sym, refl, ap, ◌∙◌, inl, inr, arith}
 use mathlib.Core.Bool.{or-false}
-use Rattle.std.proofs.lemmas.Bool.{and_from, and_parts, cases_lt, cases_order, eq-eqb, eqb-true, lt-ltb, ltb-true, both_ways}
+use Rattle.std.proofs.lemmas.Bool.{and_from, and_parts, cases_lt, cases_order, eq-eqb, eqb-true, lt-ltb, ltb-true}
 use Rattle.std.proofs.lemmas.Bool.Decides.{same_from_decides, Decides-like}
 use Rattle.std.proofs.lemmas.Nat.{zero_from_ones}
 use Rattle.std.specs.Slice.{IsItemAt}
@@ -9,7 +9,7 @@ use Rattle.std.proofs.lemmas.List.{get_or-take, get_or_default, length-take-le}
 use Rattle.std.specs.List.{between}
 use Rattle.std.proofs.lemmas.List.Edits.{length-between, get_or-between}
 use Rattle.model.specs.declared.pair.Pair.{Pair}
-use Rattle.model.specs.Search.{any, one, sum_below}
+use Rattle.model.specs.Search.{any, sum_below}
 use Rattle.model.specs.Config.{Config}
 use Rattle.model.specs.Counts.{bindings}
 use Rattle.model.proofs.Searches.{any_found, any_some, any_none, refuted}

@@ -21,7 +21,7 @@ returns-then-rank-clause-holds c =
     let first = read xs at c.index-rows-at.result wide c.index-rows-at.is in
     let again = get_or_default xs at c.index-rows-at-then-rank.result blank wide in
     let is : rank (row xs at) ≡ j.provider * 256 + j.requirer =
-        omega (arith, ap rank first, c.rank.ensures, c.rank-then-at-len.ensures, c.if-rank.true, c.of-row.ensures.provider, c.of-row.ensures.requirer) in
+    omega (arith, ap rank first, c.rank.ensures, c.rank-then-at-len.ensures, c.if-rank.true, c.of-row.ensures.provider, c.of-row.ensures.requirer) in
     put_there xs n c.requires.formed j.port j.provider j.requirer at c.requires.range.1 c.requires.range.2 room lr is d
     (subst (λ (o : Row). Gives d o.provider o.requirer (λ p. has 32 o.ports p || eqb j.port p)) again c.add.ensures)
 

@@ -1,8 +1,8 @@
-use Rattle.std.proofs.Common.{◌≡◌, ◌<◌, ◌≤◌, ◌&&◌, not, eqb, length, set, sym, ap, ◌∙◌, subst, length-set, arith}
+use Rattle.std.proofs.Common.{◌<◌, ◌&&◌, not, eqb, length, set, sym, ap, ◌∙◌, subst, length-set, arith}
 use Rattle.std.proofs.lemmas.List.{get_or-set_same, get_or_default}
 use Rattle.universe.specs.Sets.{has}
 use Rattle.table.specs.declared.row.Row.{Row}
-use Rattle.table.specs.Rows.{row, rank, blank, Gives}
+use Rattle.table.specs.Rows.{blank, Gives}
 use Rattle.table.proofs.RowWork.{take_port, take_row}
 use Rattle.table.proofs.rows.take_out.Goals as goal
 

@@ -1,4 +1,4 @@
-use Rattle.std.proofs.Common.{◌≡◌, ◌+◌, ◌*◌, ◌<◌, length, subst, arith}
+use Rattle.std.proofs.Common.{◌≡◌, ◌+◌, ◌*◌, subst, arith}
 use Rattle.table.specs.Rows.{Place}
 use Rattle.table.proofs.Performed.{bound_fit, bound_to, len_most}
 use Rattle.table.proofs.records.Records.bind.Goals as goal

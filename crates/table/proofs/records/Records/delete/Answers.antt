@@ -1,4 +1,4 @@
-use Rattle.std.proofs.Common.{◌≡◌, ◌<◌, length, arith}
+use Rattle.std.proofs.Common.{◌≡◌, length, arith}
 use Rattle.table.proofs.Performed.{deleted, deleted_fit, dropped_most}
 use Rattle.table.proofs.records.Records.delete.Goals as goal
 

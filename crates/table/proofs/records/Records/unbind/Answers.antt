@@ -1,4 +1,4 @@
-use Rattle.std.proofs.Common.{◌≡◌, ◌+◌, ◌*◌, ◌<◌, ◌≤◌, length, ◌∙◌, arith}
+use Rattle.std.proofs.Common.{◌≡◌, ◌+◌, ◌*◌, ◌∙◌, arith}
 use Rattle.table.proofs.RowSearch.{held_tells, stands_at}
 use Rattle.table.proofs.Performed.{bound_some, unbound_fit, unbound_from}
 use Rattle.table.proofs.records.Records.unbind.Goals as goal
