@@ -73,18 +73,6 @@ unfolding sum_below
 total_few xs zero = omega arith
 total_few xs (suc n) = let before = total_few xs n in let here = ones-le 32 (row xs n).ports (row xs n).in_range.2 in omega arith
 
--- before the first row nothing is kept
-pub kept_none : (xs : List Row) (z : ℕ) → Kept xs xs 0 0 z 0
-unfolding sum_below
-kept_none xs z =
-    record {
-      fewer = omega arith;
-      from = λ j l. absurd (omega arith);
-      all = λ i l ne. absurd (omega arith);
-      ordered = λ i j a l. absurd (omega arith);
-      counted = refl;
-    }
-
 -- of the first i rows m are kept, and the row i is looked at
 module _ (xs ys : List Row) (n i m z d : ℕ) (o : Ordered xs n) (li : i < n) (kept : Kept xs ys i m z d) (rest : (k : ℕ) → i ≤ k → row ys k ≡ row xs k) where
   -- the ports of those that were left out are few
