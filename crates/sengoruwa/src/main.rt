@@ -53,7 +53,7 @@ s INSTANCE STATE (change), u PORT PROVIDER REQUIRER (unbind), d INSTANCE (delete
 enum Misuse<'a> {
     NoCommand,
     NoSuchCommand(&'a str),
-    Words(&'static str),
+    Words(&'a str),
     Unreadable(&'a str),
     Unwritable(&'a str),
     NoScript(&'a str),
@@ -256,10 +256,7 @@ fn command_options(command: Command, words: &[String]) -> Result<Given, Misuse<'
 }
 
 // The plain words of a command that has two; else what is wanted.
-fn two_words<'a>(
-    words: &'a [String],
-    wanted: &'static str,
-) -> Result<(&'a str, &'a str), Misuse<'a>> {
+fn two_words<'a>(words: &'a [String], wanted: &'a str) -> Result<(&'a str, &'a str), Misuse<'a>> {
     match (
         plain_word(words, 0),
         plain_word(words, 1),
@@ -433,7 +430,10 @@ fn misused_words(words: &[String]) -> Misuse<'_> {
         return Misuse::NoCommand;
     };
     let command = command.as_str();
-    words_wanted(command).map_or(Misuse::NoSuchCommand(command), Misuse::Words)
+    match words_wanted(command) {
+        Some(wanted) => Misuse::Words(wanted),
+        None => Misuse::NoSuchCommand(command),
+    }
 }
 
 // Does what the command among the words says.

@@ -4,7 +4,7 @@ use Rattle.model.specs.Search.{one, sum_below}
 use Rattle.model.specs.Config.{Config}
 use Rattle.model.specs.Counts.{bindings}
 use Rattle.model.proofs.Sums.{sum_same}
-use Rattle.model.proofs.CoverCounts.{sum_one_moves}
+use Rattle.model.proofs.Sums.{sum_moved}
 
 -- terms that are sums of two, and their sum
 sum_both : (f g h : ℕ → ℕ) (n : ℕ) → ((p : ℕ) → h p ≡ f p + g p) → sum_below h n ≡ sum_below f n + sum_below g n
@@ -23,8 +23,8 @@ module _ (n : ℕ) (c d : Config) (x y : ℕ) (lx : x < n) (ly : y < n) (s : ℕ
 
   at_port : (p : ℕ) → sum_below (of d p) n ≡ sum_below (of c p) n + one (s p)
   at_port p =
-      let far = sum_one_moves (of c p) (of d p) x n lx (to_others p) in
-      let near = sum_one_moves (λ y'. one (c.bound p x y')) (λ y'. one (d.bound p x y')) y n ly (λ y' ne. ap one (others p x y' (λ e. ne e.1))) in
+      let far = sum_moved (of c p) (of d p) x n lx (to_others p) in
+      let near = sum_moved (λ y'. one (c.bound p x y')) (λ y'. one (d.bound p x y')) y n ly (λ y' ne. ap one (others p x y' (λ e. ne e.1))) in
       let near' = rw (new p, is p) at near in
       omega (arith, far, near')
 
