@@ -1,16 +1,18 @@
 -- The turns of the loops that count the ports of a row, and the rows of a provider, again. Assumes nothing.
-use Rattle.std.proofs.Common.{◌≡◌, ℕ, ◌+◌, ◌<◌, ◌≤◌, Bool, true, false, ◌&&◌, ◌||◌, eqb, List, length, bit_and, sym, ap, ◌∙◌, subst, refl, inl, inr, add-one, arith}
-use Rattle.std.proofs.lemmas.Bool.{cases_order, eq-eqb, le-ltb, lt-ltb, ne_eqb}
+use Rattle.std.proofs.Common.{◌≡◌, ℕ, ◌+◌, ◌<◌, ◌≤◌, Bool, true, false, not, ◌&&◌, ◌||◌, eqb, List, length, bit_and, bit_xor, sym, ap, ◌∙◌, subst, refl, inl, inr, add-one, arith}
+use mathlib.Core.Bool.{and-true}
+use Rattle.std.proofs.lemmas.Bool.{and_parts, cases_eq, eq-eqb, ne_eqb}
 use Rattle.model.specs.Config.{Config}
 use Rattle.model.specs.Search.{one}
 use Rattle.model.proofs.Searches.{any_none, refuted}
 use Rattle.model.proofs.CoverCounts.{one_either}
 use Rattle.universe.specs.Sets.{has}
+use Rattle.universe.proofs.Checked.{has_zero}
 use Rattle.universe.proofs.PackedSets.{has_below}
 use Rattle.table.specs.declared.row.Row.{Row}
 use Rattle.table.specs.Rows.{row, joins, held, Ordered}
-use Rattle.table.specs.Covers.{by_port, by_provider, by_row, by_row_below, by_rows, count, Ready, ReadyRow, RowsFrom, Recounted}
-use Rattle.table.proofs.Ports.{has_and}
+use Rattle.table.specs.Covers.{by_port, by_provider, by_row, by_row_but, by_rows, count, Ready, ReadyRow, RowsFrom, Recounted}
+use Rattle.table.proofs.PortSets.{has_and, has_xor}
 use Rattle.table.proofs.RowSearch.{any_suc, held_tells, joins_rank, joins_self, one_place}
 
 -- two recounts one after the other
@@ -19,59 +21,61 @@ recounted_then : (xs zs ys : List ℕ) (f g f' g' f'' g'' : ℕ → ℕ → Bool
 recounted_then xs zs ys f g f' g' f'' g'' before here ef eg =
     record { at = λ p y lp ly. omega (arith, before.at p y lp ly, here.at p y lp ly, ef p y, eg p y) }
 
+-- so many ports of a row are left: the others were recounted
+pub record Left (xs zs : List ℕ) (b : Row) (left : ℕ) (f g : ℕ → Bool) : Type 0 where
+  pub inside : (p : ℕ) → has 32 left p ≡ true → has 32 b.ports p ≡ true
+  pub recounted : Recounted xs zs (by_row_but left b f) (by_row_but left b g)
+
 -- the ports of a row
 module _ (b : Row) where
-  -- where the row has the same ports of both sets nothing needs to be counted
-  pub recounted_alike : (s t : ℕ) → bit_and b.ports s ≡ bit_and b.ports t → (xs : List ℕ) → Recounted xs xs (by_row b (has 32 s)) (by_row b (has 32 t))
-  unfolding by_row
-  recounted_alike s t e xs =
-      record { at = λ p y lp ly. ap (λ (n : ℕ). count xs p y + n) (ap one (sym (same p y))) }
+  -- at first those are left that one of two sets has and the other has not
+  pub left_first : (xs : List ℕ) (s t : ℕ) → Left xs xs b (bit_and b.ports (bit_xor s t)) (has 32 s) (has 32 t)
+  unfolding by_row_but by_row
+  left_first xs s t =
+      record {
+        inside = λ p e. (and_parts (has 32 b.ports p) _ (sym (has_and b.ports (bit_xor s t) p) ∙ e)).0;
+        recounted = record { at = λ p y lp ly. ap (λ n. count xs p y + n) (ap one (same p y)) };
+      }
     where
-      pass : (h f g a c : Bool) → (h && f) ≡ (h && g) → (((h && a) && c) && g) ≡ (((h && a) && c) && f)
-      pass true f g true true k = sym k
-      pass true f g true false k = refl
-      pass true f g false c k = refl
-      pass false f g a c k = refl
+      pass : (h d f g a c : Bool) → (d ≡ false → f ≡ g) → (not (h && d) && (((h && a) && c) && f)) ≡ (not (h && d) && (((h && a) && c) && g))
+      pass true true f g a c k = refl
+      pass true false f g true true k = k refl
+      pass true false f g true false k = refl
+      pass true false f g false c k = refl
+      pass false d f g a c k = refl
 
-      same : (p y : ℕ) → (joins b p b.provider y && has 32 t p) ≡ (joins b p b.provider y && has 32 s p)
+      same : (p y : ℕ) → by_row_but (bit_and b.ports (bit_xor s t)) b (has 32 s) p y ≡ by_row_but (bit_and b.ports (bit_xor s t)) b (has 32 t) p y
       same p y =
-          pass (has 32 b.ports p) (has 32 s p) (has 32 t p) (eqb b.provider b.provider) (eqb b.requirer y)
-          (sym (has_and b.ports s p) ∙ ap (λ n. has 32 n p) e ∙ has_and b.ports t p)
+          rw (has_and b.ports (bit_xor s t) p)
+          (pass (has 32 b.ports p) (has 32 (bit_xor s t) p) (has 32 s p) (has 32 t p) (eqb b.provider b.provider) (eqb b.requirer y) (has_xor s t p))
 
-  -- before the first port nothing is recounted
-  pub ports_none : (xs : List ℕ) (f g : ℕ → Bool) → Recounted xs xs (by_row_below 0 b f) (by_row_below 0 b g)
-  unfolding by_row_below
-  ports_none xs f g = record { at = λ p y lp ly. let e = le-ltb p 0 (omega arith) in rw e refl }
+  -- the port q of those that are left is looked at
+  module _ (q left : ℕ) (xs zs : List ℕ) (f g : ℕ → Bool) (before : Left xs zs b left f g) (has_it : has 32 left q ≡ true) where
+    same : count zs q b.requirer ≡ count xs q b.requirer
+    unfolding by_row_but
+    same =
+        let e = before.recounted.at q b.requirer (has_below 32 left q has_it) b.in_range.1 in
+        let e' = rw has_it at e in
+        omega (arith, e')
 
-  -- the port i is looked at
-  module _ (i : ℕ) (xs zs : List ℕ) (f g : ℕ → Bool) (before : Recounted xs zs (by_row_below i b f) (by_row_below i b g)) where
-    -- the row has it
-    module _ (has_it : has 32 b.ports i ≡ true) (ready : ReadyRow xs b f) where
-      same : count zs i b.requirer ≡ count xs i b.requirer
-      unfolding by_row_below
-      same =
-          let e = before.at i b.requirer (has_below 32 b.ports i has_it) b.in_range.1 in
-          let e' = rw (le-ltb i i (omega arith)) at e in
-          omega (arith, e')
+    module _ (ready : ReadyRow xs b f) where
+      pub port_least : one (f q) ≤ count zs q b.requirer
+      port_least = omega (arith, ready.least q (before.inside q has_it), same)
 
-      pub port_least : one (f i) ≤ count zs i b.requirer
-      port_least = omega (arith, ready.least i has_it, same)
+      pub port_room : count zs q b.requirer < 65535
+      port_room = omega (arith, ready.room q (before.inside q has_it), same)
 
-      pub port_room : count zs i b.requirer < 65535
-      port_room = omega (arith, ready.room i has_it, same)
-
-      parted : (h : ℕ → Bool) (p y : ℕ) → one (by_row_below (i + 1) b h p y) ≡ one (by_row_below i b h p y) + one (by_port i b.requirer h p y)
-      unfolding by_row_below by_row by_port
+    -- it is left no more
+    module _ (rest : ℕ) (is : (p : ℕ) → has 32 rest p ≡ (has 32 left p && not (eqb q p))) where
+      parted : (h : ℕ → Bool) (p y : ℕ) → one (by_row_but rest b h p y) ≡ one (by_row_but left b h p y) + one (by_port q b.requirer h p y)
+      unfolding by_row_but by_row by_port
       parted h p y =
-          elim (cases_order p i) [
-            | inl e ↦ rw (e, lt-ltb i (i + 1) (omega arith), le-ltb i i (omega arith), has_it, eq-eqb b.provider b.provider refl, eq-eqb i i refl) (at (eqb b.requirer y) (h i))
-            | inr apart ↦ elim apart [
-              | inl lt ↦ rw (lt-ltb p (i + 1) (omega arith), lt-ltb p i lt, ne_eqb i p (λ e. omega arith)) (plus _)
-              | inr gt ↦ rw (le-ltb p (i + 1) (omega arith), le-ltb p i (omega arith), ne_eqb i p (λ e. omega arith)) refl
-            ]
+          elim (cases_eq p q) [
+            | inl e ↦ rw (e, is q, has_it, before.inside q has_it, eq-eqb b.provider b.provider refl, eq-eqb q q refl) (at (eqb b.requirer y) (h q))
+            | inr ne ↦ rw (is p, ne_eqb q p (λ e. ne (sym e)), and-true (has 32 left p)) (plus _)
           ]
         where
-          at : (a c : Bool) → one (true && (((true && true) && a) && c)) ≡ one (false && (((true && true) && a) && c)) + one ((true && a) && c)
+          at : (a c : Bool) → one (not (true && not true) && (((true && true) && a) && c)) ≡ one (not true && (((true && true) && a) && c)) + one ((true && a) && c)
           at true true = refl
           at true false = refl
           at false c = refl
@@ -79,28 +83,17 @@ module _ (b : Row) where
           plus : (n : ℕ) → n ≡ n + 0
           plus n = omega arith
 
-      pub port_recounted : (ys : List ℕ) → Recounted zs ys (by_port i b.requirer f) (by_port i b.requirer g) → Recounted xs ys (by_row_below (i + 1) b f) (by_row_below (i + 1) b g)
-      port_recounted ys here = recounted_then xs zs ys _ _ _ _ _ _ before here (parted f) (parted g)
+      pub left_next : (ys : List ℕ) → Recounted zs ys (by_port q b.requirer f) (by_port q b.requirer g) → Left xs ys b rest f g
+      left_next ys here =
+          record {
+            inside = λ p e. before.inside p (and_parts (has 32 left p) _ (sym (is p) ∙ e)).0;
+            recounted = recounted_then xs zs ys _ _ _ _ _ _ before.recounted here (parted f) (parted g);
+          }
 
-    -- the row does not have it
-    unmoved : has 32 b.ports i ≡ false → (h : ℕ → Bool) (p y : ℕ) → one (by_row_below (i + 1) b h p y) ≡ one (by_row_below i b h p y)
-    unfolding by_row_below by_row
-    unmoved none h p y =
-        elim (cases_order p i) [
-          | inl e ↦ rw (e, lt-ltb i (i + 1) (omega arith), le-ltb i i (omega arith), none) refl
-          | inr apart ↦ elim apart [
-            | inl lt ↦ rw (lt-ltb p (i + 1) (omega arith), lt-ltb p i lt) refl
-            | inr gt ↦ rw (le-ltb p (i + 1) (omega arith), le-ltb p i (omega arith)) refl
-          ]
-        ]
-
-    pub port_passed : has 32 b.ports i ≡ false → Recounted xs zs (by_row_below (i + 1) b f) (by_row_below (i + 1) b g)
-    port_passed none = record { at = λ p y lp ly. omega (arith, before.at p y lp ly, unmoved none f p y, unmoved none g p y) }
-
-  -- all ports were recounted
-  pub ports_recounted : (xs ys : List ℕ) (f g : ℕ → Bool) → Recounted xs ys (by_row_below 32 b f) (by_row_below 32 b g) → Recounted xs ys (by_row b f) (by_row b g)
-  unfolding by_row_below
-  ports_recounted xs ys f g all = record { at = λ p y lp ly. let e = all.at p y lp ly in rw (lt-ltb p 32 lp) at e }
+  -- in the end none is left
+  pub left_none : (xs ys : List ℕ) (f g : ℕ → Bool) → Left xs ys b 0 f g → Recounted xs ys (by_row b f) (by_row b g)
+  unfolding by_row_but
+  left_none xs ys f g all = record { at = λ p y lp ly. let e = all.recounted.at p y lp ly in rw (has_zero 32 p) at e }
 
 -- before the first row nothing is recounted
 pub recounted_none : (xs : List ℕ) (rows : List Row) (z : ℕ) (f g : ℕ → Bool) →

@@ -1,4 +1,4 @@
-pub mod Ports
+pub mod PortSets
 pub mod PairCounts
 pub mod RowSearch
 pub mod RowTurns

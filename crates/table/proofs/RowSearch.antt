@@ -21,7 +21,7 @@ use Rattle.table.specs.declared.row.Row.{Row}
 use Rattle.table.specs.Rows.{blank, row, rank, joins, held, total, Ordered, Formed, Place}
 use Rattle.table.specs.Covers.{RowsFrom}
 use Rattle.table.proofs.PairCounts.{bindings_with}
-use Rattle.table.proofs.Ports.{port_count, some_port}
+use Rattle.table.proofs.PortSets.{port_count, some_port}
 
 -- a row that was read
 pub read : (xs : List Row) (i : ℕ) (b : Row) → i < length xs → b ≡ get_or xs i b → b ≡ row xs i

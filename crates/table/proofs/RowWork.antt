@@ -9,7 +9,7 @@ use Rattle.universe.specs.Sets.{has}
 use Rattle.universe.proofs.Checked.{has_zero}
 use Rattle.table.specs.declared.row.Row.{Row}
 use Rattle.table.specs.Rows.{row, rank, joins, held, Formed, Gives, Holds, Place, Opened, Closed}
-use Rattle.table.proofs.Ports.{not_empty}
+use Rattle.table.proofs.PortSets.{not_empty}
 use Rattle.table.proofs.RowSearch.{joins_tells, least_at, rank_one}
 use Rattle.table.proofs.RowMoves.{filled_less, filled_more, filled_written, gives_less, gives_more, gives_one, held_gained, held_less, held_lost, held_more, here, ordered_less, ordered_more, ordered_written}
 

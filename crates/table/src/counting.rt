@@ -9,6 +9,7 @@ ghost use Rattle.table.specs.Records.{Able, config_of};
 ghost use Rattle.table.specs.Covers.{Cleared, Counted, Ready, ReadyRow, Recounted, by_port, by_provider, by_row, count, count_within, provides};
 
 use crate::covers::Covers;
+use crate::ports::{last_of, without};
 use crate::records::Records;
 use crate::row::Row;
 use model::binding::Binding;
@@ -72,26 +73,16 @@ impl Covers {
         self.counts[place] = others + u16::from(after.has(port));
     }
 
-    // The same for each port of the row.
-    fn recount_ports(&mut self, row: Row, before: u32, after: u32)
-        requires { ReadyRow self.old.counts row (has 32 before) }
-        ensures { Recounted self.old.counts self.new.counts (by_row row (has 32 before)) (by_row row (has 32 after)) }
-    {
-        for port in 0..32 {
-            if row.ports.has(port) {
-                self.recount_port(port, u32::from(row.requirer), before, after);
-            }
-        }
-    }
-
-    // The same, where some port of the row is gained or lost.
-    #[tactic(auto, using(crate::proofs::CoverTurns::recounted_alike))]
+    // The same for each port of the row that one of the sets has and the other has not.
     fn recount(&mut self, row: Row, before: u32, after: u32)
         requires { ReadyRow self.old.counts row (has 32 before) }
         ensures { Recounted self.old.counts self.new.counts (by_row row (has 32 before)) (by_row row (has 32 after)) }
     {
-        if row.ports & before != row.ports & after {
-            self.recount_ports(row, before, after);
+        let mut left = row.ports & (before ^ after);
+        while left != 0 {
+            let port = last_of(left);
+            self.recount_port(port, u32::from(row.requirer), before, after);
+            left = without(left, port);
         }
     }
 

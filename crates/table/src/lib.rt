@@ -5,6 +5,7 @@ mod counting;
 mod covers;
 pub mod limits;
 mod orders;
+mod ports;
 mod records;
 mod row;
 mod rows;

@@ -4,9 +4,9 @@ ghost use Rattle.model.specs.Orders.{same};
 ghost use Rattle.universe.specs.Sets.{has};
 ghost use Rattle.table.specs.Rows.{rank as rank_of, held, row, Closed, Formed, Gives, Holds, Kept, Opened, Place};
 
+use crate::ports::{single, with, without};
 use crate::row::Row;
 use model::binding::Binding;
-use universe::sets::Field;
 
 // What each row holds at first.
 pub(crate) const BLANK_ROW: Row = Row {
@@ -14,15 +14,6 @@ pub(crate) const BLANK_ROW: Row = Row {
     requirer: 0,
     ports: 0,
 };
-
-// The packed set of one port.
-#[tactic(auto, using(crate::proofs::Ports::has_single))]
-fn single(port: u32) -> u32
-    requires { port < 32 }
-    ensures { (p : ℕ) → has 32 result p ≡ (port == p) }
-{
-    1 << (31 - port)
-}
 
 impl Row {
     // The row of one binding, whose numbers are in range. With `TryFrom` the work of an order would have an error that
@@ -61,21 +52,19 @@ impl Row {
     }
 
     // One port more.
-    #[tactic(auto, using(crate::proofs::Ports::has_or))]
     fn add(&mut self, port: u32)
         requires { port < 32 }
         ensures { Gives self.new self.old.provider self.old.requirer (λ p. has 32 self.old.ports p || (port == p)) }
     {
-        self.ports |= single(port);
+        self.ports = with(self.ports, port);
     }
 
     // One port less.
-    #[tactic(auto, using(crate::proofs::Ports::has_and_not))]
     fn remove(&mut self, port: u32)
         requires { port < 32 }
         ensures { Gives self.new self.old.provider self.old.requirer (λ p. has 32 self.old.ports p && not (port == p)) }
     {
-        self.ports &= !single(port);
+        self.ports = without(self.ports, port);
     }
 }
 

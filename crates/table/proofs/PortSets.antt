@@ -1,10 +1,10 @@
 -- Packed sets of ports by their bits, and how many ports they have. Assumes nothing.
-use Rattle.std.proofs.Common.{◌≡◌, ℕ, zero, suc, ◌+◌, ◌-◌, ◌*◌, ◌/◌, ◌%◌, ◌^◌, ◌<◌, ◌≤◌, min, max, Bool, true, false, not, ◌&&◌, ◌||◌, eqb, ◌≢◌, count_ones, bit_and, bit_or, refl, sym, ap, ◌∙◌, inl, inr, div-one, arith}
+use Rattle.std.proofs.Common.{◌≡◌, ℕ, zero, suc, ◌+◌, ◌-◌, ◌*◌, ◌/◌, ◌%◌, ◌^◌, ◌<◌, ◌≤◌, min, max, Bool, true, false, not, ◌&&◌, ◌||◌, eqb, ◌≢◌, count_ones, bit_and, bit_or, bit_xor, refl, sym, ap, ◌∙◌, inl, inr, div-one, arith}
 use native.Mathlib.Nat.{pow-succ'}
 use lib.Count.{ones_step}
-use Rattle.std.specs.Int.{bit_at, bit_not, w32}
+use Rattle.std.specs.Int.{bit_at, bit_not, trailing_zeros, w32}
 use Rattle.std.proofs.lemmas.Nat.{one_shl, ones-le, shr-shr, zero_from_ones}
-use Rattle.std.proofs.lemmas.Nat.Bits.{bit_at-lt, bit_at-pow_other, bit_at-pow_same, bit_at_and, bit_at_not, bit_at_or}
+use Rattle.std.proofs.lemmas.Nat.Bits.{bit_at-lt, bit_at-pow_other, bit_at-pow_same, bit_at_and, bit_at-trailing_zeros, bit_at_not, bit_at_or, bit_at_xor}
 use Rattle.std.proofs.lemmas.Bool.{cases_Bool, cases_eq, cases_lt, eq-eqb, lt-ltb, ne_eqb}
 use Rattle.model.specs.Search.{any, one, sum_below}
 use Rattle.model.proofs.Searches.{any_found, any_some, refuted}
@@ -80,6 +80,34 @@ has_single q p low =
       | inr ne ↦ rw (ne_eqb q p ne, bit_at-pow_other (31 - q) (31 - p) (λ e. ne (omega arith)))
     ])
     (λ g. sym (ne_eqb q p (λ e. omega arith))))
+
+-- what one of two sets has and the other has not
+pub has_xor : (a b p : ℕ) → has 32 (bit_xor a b) p ≡ false → has 32 a p ≡ has 32 b p
+has_xor a b p e =
+    elim (cases_lt p 32) [
+      | inl l ↦
+          rw (has_bit a p l, has_bit b p l)
+          (alike (bit_at a (31 - p)) (bit_at b (31 - p)) (bit_at-lt a (31 - p)) (bit_at-lt b (31 - p)) (rw (has_bit (bit_xor a b) p l, bit_at_xor a b (31 - p)) at e))
+      | inr g ↦ rw (has_past 32 a p g, has_past 32 b p g) refl
+    ]
+  where
+    alike : (x y : ℕ) → x < 2 → y < 2 → eqb ((x + y) % 2) 1 ≡ false → eqb x 1 ≡ eqb y 1
+    alike zero zero l m k = refl
+    alike zero (suc zero) l m k = sym k
+    alike zero (suc (suc y)) l m k = absurd (omega arith)
+    alike (suc zero) zero l m k = k
+    alike (suc zero) (suc zero) l m k = refl
+    alike (suc zero) (suc (suc y)) l m k = absurd (omega arith)
+    alike (suc (suc x)) y l m k = absurd (omega arith)
+
+-- the lowest bit that is one is that of the last port
+pub has_last_port : (set : ℕ) → set ≢ 0 → set < 2 ^ 32 → has 32 set (31 - trailing_zeros w32 set) ≡ true
+has_last_port set ne small =
+    let some : 0 < set = elim (cases_lt 0 set) [ inl l ↦ l | inr g ↦ absurd (ne (omega arith)) ] in
+    let t = bit_at-trailing_zeros w32 set some small in
+    let low : trailing_zeros w32 set < 32 = t.0 in
+    let back : 31 - (31 - trailing_zeros w32 set) ≡ trailing_zeros w32 set = omega arith in
+    has_bit set (31 - trailing_zeros w32 set) (omega arith) ∙ eq-eqb _ 1 (ap (bit_at set) back ∙ t.1)
 
 -- what has a port is not empty
 pub not_empty : (set p : ℕ) → has 32 set p ≡ true → set ≢ 0
