@@ -68,8 +68,8 @@ impl Row {
     }
 }
 
-// The two moves are one call of the library each. In the functions below, as tried, their proofs gain as many lines as the
-// code loses.
+// The two moves are one call of the library each, and functions of their own: what a move leaves is proved once, and a wrong
+// one is refused here.
 
 // Moves the rows from `at` on up by one place.
 #[tactic(auto, using(crate::proofs::RowTurns::opened_of))]
