@@ -11,7 +11,7 @@ use Rattle.universe.proofs.Checked.{has_zero}
 use Rattle.universe.proofs.PackedSets.{has_below}
 use Rattle.table.specs.declared.row.Row.{Row}
 use Rattle.table.specs.Rows.{row, joins, held, Ordered}
-use Rattle.table.specs.Covers.{by_port, by_provider, by_row, by_row_but, by_rows, count, Ready, ReadyRow, RowsFrom, Recounted}
+use Rattle.table.specs.Covers.{by_port, by_provider, by_row, by_rows, count, Ready, ReadyRow, RowsFrom, Recounted}
 use Rattle.table.proofs.PortSets.{has_and, has_xor}
 use Rattle.table.proofs.RowSearch.{any_suc, held_tells, joins_rank, joins_self, one_place}
 
@@ -20,6 +20,10 @@ recounted_then : (xs zs ys : List ℕ) (f g f' g' f'' g'' : ℕ → ℕ → Bool
     ((p y : ℕ) → one (f'' p y) ≡ one (f p y) + one (f' p y)) → ((p y : ℕ) → one (g'' p y) ≡ one (g p y) + one (g' p y)) → Recounted xs ys f'' g''
 recounted_then xs zs ys f g f' g' f'' g'' before here ef eg =
     record { at = λ p y lp ly. omega (arith, before.at p y lp ly, here.at p y lp ly, ef p y, eg p y) }
+
+-- the row is to y and has the port p, which is not among those left, and p passes
+pub by_row_but : ℕ → Row → (ℕ → Bool) → ℕ → ℕ → Bool
+by_row_but left b f p y = not (has 32 left p) && by_row b f p y
 
 -- so many ports of a row are left: the others were recounted
 pub record Left (xs zs : List ℕ) (b : Row) (left : ℕ) (f g : ℕ → Bool) : Type 0 where

@@ -1,5 +1,5 @@
 -- Counts of the bindings that cover each port, and what the work on them leaves.
-use Rattle.std.specs.Prelude.{◌≡◌, ℕ, ◌+◌, ◌*◌, ◌<◌, ◌≤◌, Bool, true, cond, not, ◌&&◌, ◌==◌, List, Option, length, nat_lt, slice_index}
+use Rattle.std.specs.Prelude.{◌≡◌, ℕ, ◌+◌, ◌*◌, ◌<◌, ◌≤◌, Bool, true, cond, ◌&&◌, ◌==◌, List, Option, length, nat_lt, slice_index}
 use Rattle.model.specs.declared.pair.Pair.{Pair}
 use Rattle.model.specs.Search.{one}
 use Rattle.model.specs.Universe.{Universe}
@@ -32,10 +32,6 @@ by_port q z f p y = q == p && z == y && f p
 -- the row is to y and has the port p, and p passes
 unfoldable pub by_row : Row → (ℕ → Bool) → ℕ → ℕ → Bool
 by_row b f p y = joins b p b.provider y && f p
-
--- the same for the ports that are not in a set
-unfoldable pub by_row_but : ℕ → Row → (ℕ → Bool) → ℕ → ℕ → Bool
-by_row_but left b f p y = not (has 32 left p) && by_row b f p y
 
 -- one of the first n rows is from z to y and has the port p, and p passes
 unfoldable pub by_rows : List Row → ℕ → ℕ → (ℕ → Bool) → ℕ → ℕ → Bool
