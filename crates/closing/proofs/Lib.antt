@@ -1,4 +1,5 @@
 pub mod Masks
 pub mod Tracking
 pub mod Rounds
+pub mod Ranking
 pub mod Lookups

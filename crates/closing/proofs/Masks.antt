@@ -2,9 +2,10 @@
 use Rattle.std.proofs.Common.{◌≡◌, ℕ, zero, suc, ◌-◌, ◌^◌, ◌<◌, min, max, Bool, true, false, not, ◌&&◌, ◌||◌, eqb, refl, sym, ap, ◌∙◌, inl, inr, arith}
 use lib.Bits.{bit_and, bit_or}
 use Rattle.std.proofs.lemmas.Nat.{and_le_l}
-use Rattle.std.specs.Int.{bit_at}
+use Rattle.std.specs.Int.{Width, bit_at, bit_not}
+use mir.Val.{bits}
 use Rattle.std.proofs.lemmas.Bool.{and_parts, and_from, both_ways, cases_Bool, cases_eq, cases_lt, eq-eqb, eqb-true, lt-ltb, ne_eqb, not-true}
-use Rattle.std.proofs.lemmas.Nat.Bits.{bit_at-lt, bit_at-pow_other, bit_at-pow_same, bit_at-zero, bit_at_and, bit_at_or, same_from_bits_below}
+use Rattle.std.proofs.lemmas.Nat.Bits.{bit_at-lt, bit_at-pow_other, bit_at-pow_same, bit_at-zero, bit_at_and, bit_at_not, bit_at_or, same_from_bits_below}
 use Rattle.model.specs.Search.{any}
 use Rattle.model.proofs.Searches.{any_found, any_some}
 use Rattle.universe.specs.Sets.{has}
@@ -82,6 +83,31 @@ module _ (w : ℕ) where
       let both : min (bit_at a (w - 1 - p)) (bit_at b (w - 1 - p)) ≡ 1 = sym (bit_at_and a b (w - 1 - p)) ∙ ap (λ n. bit_at n (w - 1 - p)) e ∙ bit in
       let small = bit_at-lt b (w - 1 - p) in
       has_bit w b p l ∙ eq-eqb (bit_at b (w - 1 - p)) 1 (omega arith)
+
+-- what is in one set and not in another
+module _ (w : Width) (a b : ℕ) (small : b < 2 ^ bits w) where
+  pub has_and_not : (p : ℕ) → has (bits w) (bit_and a (bit_not w b)) p ≡ (has (bits w) a p && not (has (bits w) b p))
+  has_and_not p =
+      elim (cases_lt p (bits w)) [
+        | inl l ↦
+            let low : bits w - 1 - p < bits w = omega arith in
+            rw (
+              has_bit (bits w) (bit_and a (bit_not w b)) p l,
+              has_bit (bits w) a p l,
+              has_bit (bits w) b p l,
+              bit_at_and a (bit_not w b) (bits w - 1 - p),
+              bit_at_not w b (bits w - 1 - p) small low,
+            )
+            (without (bit_at a (bits w - 1 - p)) (bit_at b (bits w - 1 - p)) (bit_at-lt a (bits w - 1 - p)) (bit_at-lt b (bits w - 1 - p)))
+        | inr g ↦ rw (has_past (bits w) (bit_and a (bit_not w b)) p g, has_past (bits w) a p g)
+      ]
+    where
+      without : (x y : ℕ) → x < 2 → y < 2 → eqb (min x (1 - y)) 1 ≡ (eqb x 1 && not (eqb y 1))
+      without zero y l m = let none : min 0 (1 - y) ≡ 0 = omega arith in rw none
+      without (suc zero) zero l m = refl
+      without (suc zero) (suc zero) l m = refl
+      without (suc zero) (suc (suc y)) l m = absurd (omega arith)
+      without (suc (suc x)) y l m = absurd (omega arith)
 
 -- a set within another exceeds it nowhere
 pub exceeds_masked : (a b : ℕ) → a < 2 ^ 32 → not (eqb (bit_and a b) a) ≡ exceeds a b

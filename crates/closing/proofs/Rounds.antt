@@ -11,7 +11,7 @@ use Rattle.universe.proofs.Sounds.{sound}
 use Rattle.plans.specs.Lists.{lists_below}
 use Rattle.closing.specs.declared.listing.Listing.{Listing}
 use Rattle.closing.specs.Listing.{Lists, pairs_of}
-use Rattle.closing.proofs.Tracking.{lists_tracks, places_length, places_pairs}
+use Rattle.closing.proofs.Tracking.{lists_tracks, places_length}
 use Rattle.plans.proofs.Closings.{closing_still, pair_count_small}
 use Rattle.plans.proofs.Growing.{Sound, addable_ready, initial_below, initial_length, initial_sound, listed_count_most, next_some, sound_pushed}
 use Rattle.plans.proofs.Ranks.{length_pushed}
@@ -71,10 +71,10 @@ module _ (t : Tables) where
   pub initial_more : (s r : Listing) (k : ℕ) → Lists t (initial_below k) s → Lists t (pairs_of s ++ (pair k 0 ∷ [])) r →
       Lists t (initial_below (k + 1)) r
   unfolding lists_below
-  initial_more s r k was now = rw (add-one, ← places_pairs t (initial_below k) s.places s.len was.places) now
+  initial_more s r k was now = rw (add-one, ← was.places.kept) now
 
   pub initial_room : (s : Listing) (k : ℕ) → Lists t (initial_below k) s → s.len ≡ k
-  initial_room s k lists = sym (places_length t (initial_below k) s.places s.len lists.places) ∙ initial_length k
+  initial_room s k lists = sym (places_length (initial_below k) s.places s.len lists.places) ∙ initial_length k
 
 -- state 0 of a type is a pair
 pub initial_pair : (h : Held) (k : ℕ) → k < (universe_in h).types → IsPair (universe_in h) k 0
@@ -93,7 +93,7 @@ module _ (h : Held) where
   round_begins s lists =
       record {
         lists = lists_tracks h.tables _ s lists;
-        midway = rw (places_pairs h.tables _ s.places s.len lists.places) (midway_begins (universe_in h) valid);
+        midway = rw (lists.places.kept) (midway_begins (universe_in h) valid);
       }
 
   module _ (s : Listing) (g : Pair) (round : Round h s) (next : next_pair (universe_in h) (pairs_of s) ≡ Some g) where
@@ -103,13 +103,13 @@ module _ (h : Held) where
     pub round_room : s.len < 128
     round_room =
         let room = next_room (universe_in h) (pairs_of s) g valid round.midway.sound next in
-        omega (arith, places_length h.tables (pairs_of s) s.places s.len round.lists.places)
+        omega (arith, places_length (pairs_of s) s.places s.len round.lists.places)
 
     pub round_more : (r : Listing) → Lists h.tables (pairs_of s ++ (g ∷ [])) r → Round h r
     round_more r lists =
         record {
           lists = lists_tracks h.tables _ r lists;
-          midway = rw (places_pairs h.tables _ r.places r.len lists.places) (midway_more (universe_in h) (pairs_of s) g valid round.midway next);
+          midway = rw (lists.places.kept) (midway_more (universe_in h) (pairs_of s) g valid round.midway next);
         }
 
   pub round_ends : (s : Listing) → Round h s → next_pair (universe_in h) (pairs_of s) ≡ None → Lists h.tables (closing (universe_in h)) s

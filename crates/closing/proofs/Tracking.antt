@@ -1,14 +1,17 @@
 -- What the sets beside a list of pairs tell, as the list grows. Assumes nothing.
-use Rattle.std.proofs.Common.{◌≡◌, ℕ, zero, suc, ◌+◌, ◌-◌, ◌/◌, ◌^◌, ◌<◌, ◌≤◌, Bool, true, false, not, ◌&&◌, ◌||◌, eqb, List, [], ◌∷◌, ◌++◌, length, get_or, set, map, replicate, refl, sym, ap, ◌∙◌, inl, inr, arith}
+use Rattle.std.proofs.Common.{◌≡◌, ℕ, zero, suc, ◌+◌, ◌-◌, ◌/◌, ◌^◌, ◌<◌, ◌≤◌, Bool, true, false, not, ◌&&◌, ◌||◌, eqb, List, [], ◌∷◌, ◌++◌, length, get_or, set, take, replicate, None, refl, sym, ap, ◌∙◌, inl, inr, arith}
 use mathlib.Core.Bool.{or-false}
-use lib.Bits.{bit_or}
+use lib.Bits.{bit_and, bit_or}
+use Rattle.std.specs.Int.{bit_not, w8}
 use Rattle.std.specs.List.{list_any}
+use Rattle.std.proofs.Math.Bool.{and_assoc, and_comm}
 use Rattle.std.proofs.lemmas.Bool.{and_parts, both_ways, cases_Bool, cases_eq, eq-eqb, ne_eqb}
-use Rattle.std.proofs.lemmas.List.{get_or-set_same, get_or-set_other, length-set, length-replicate, length-map, length-take-le, map-append, take_more_set}
+use Rattle.std.proofs.lemmas.List.{get_or-set_same, get_or-set_other, length-set, length-replicate, length-take-le, take_more_set}
 use Rattle.model.specs.declared.pair.Pair.{Pair}
 use Rattle.model.specs.Config.{pair}
 use Rattle.model.specs.Search.{any}
-use Rattle.model.specs.Universe.{IsPair, Valid}
+use Rattle.model.specs.Universe.{IsPair, Universe as Model, Valid}
+use Rattle.model.proofs.Ranges.{first_upto}
 use Rattle.model.proofs.Searches.{any_found, any_none_of, any_some}
 use Rattle.universe.specs.declared.held.Universe.{Universe}
 use Rattle.universe.specs.Held.{universe_in}
@@ -17,14 +20,13 @@ use Rattle.universe.specs.declared.tables.State.{State}
 use Rattle.universe.specs.declared.tables.Tables.{Tables}
 use Rattle.universe.specs.Sets.{has}
 use Rattle.universe.specs.Tables.{entry_at, universe_of}
-use Rattle.plans.specs.Lists.{listed, same_pair}
-use Rattle.plans.specs.Closing.{lacks, follows, provides}
+use Rattle.plans.specs.Lists.{listed, same_pair, some_if}
+use Rattle.plans.specs.Closing.{addable, lacks, follows, provides}
 use Rattle.plans.proofs.Ranks.{any_pushed}
-use Rattle.closing.specs.declared.order.Listed.{Listed}
 use Rattle.closing.specs.declared.listing.Listing.{Listing}
-use Rattle.closing.specs.Listing.{Lists, Sets, exceeds, pairs_in, pairs_of}
-use Rattle.closing.specs.Places.{Places, kept_of}
-use Rattle.closing.proofs.Masks.{has_none, has_or, has_single}
+use Rattle.closing.specs.Listing.{Lists, Sets, Waits, exceeds, next_of, pairs_of}
+use Rattle.closing.specs.Places.{Places}
+use Rattle.closing.proofs.Masks.{has_and_not, has_none, has_or, has_single}
 
 -- two searches agree where their tests do, if nothing passes from the lower bound on
 any_bound : (f g : ℕ → Bool) (m n : ℕ) → n ≤ m → ((p : ℕ) → f p ≡ g p) → ((p : ℕ) → g p ≡ true → p < n) → any f m ≡ any g n
@@ -125,21 +127,42 @@ module _ (h : Universe) (s : Listing) (p : Pair) (lists : Lists h.tables (pairs_
       valid : Valid (universe_in h)
       valid = (sound h.tables h.sound).valid
 
+-- the states that wait, by the sets
+pub waiting_told : (h : Universe) (s : Listing) (k a b : ℕ) → b < 2 ^ 8 → a ≡ get_or s.led k 0 → b ≡ get_or s.listed k 0 →
+    Lists h.tables (pairs_of s) s → Waits (universe_in h) (pairs_of s) k (bit_and a (bit_not w8 b))
+waiting_told h s k a b small after before lists = λ q.
+    has_and_not w8 a b small q
+    ∙ and_comm (has 8 a q) (not (has 8 b q))
+    ∙ ap (λ x. not (has 8 x q) && has 8 a q) before ∙ ap (λ x. not (has 8 (get_or s.listed k 0) q) && has 8 x q) after
+    ∙ ap (λ x. not x && has 8 (get_or s.led k 0) q) (lists.sets.listed_pairs k q)
+    ∙ ap (λ x. not (listed (pairs_of s) (pair k q)) && x) (lists.sets.led_pairs k q)
+
+-- a pair can be added exactly if it waits and lacks nothing
+module _ (u : Model) (l : List Pair) (k waiting : ℕ) (waits : Waits u l k waiting) where
+  pub addable_told : (q : ℕ) → (has 8 waiting q && not (lacks u l (pair k q))) ≡ addable u l (pair k q)
+  unfolding addable
+  addable_told q =
+      ap (λ b. b && not (lacks u l (pair k q))) (waits q)
+      ∙ and_assoc (not (listed l (pair k q))) (list_any (follows u (pair k q)) l) (not (lacks u l (pair k q)))
+
+  -- where none waits, none can be added
+  pub none_waiting : waiting ≡ 0 → None ≡ next_of u l k
+  none_waiting none =
+      sym (first_upto _ (u.states k) (λ q low.
+      ap (λ b. some_if b (pair k q))
+      (sym (addable_told q) ∙ ap (λ n. has 8 n q && not (lacks u l (pair k q))) none ∙ ap (λ b. b && not (lacks u l (pair k q))) (has_none 8 q))))
+
 -- the places with a pair more
-pub places_push : (t : Tables) (places : List Listed) (len : ℕ) (h : Pair) (at : Listed) → len < 128 → at ≡ kept_of t h →
-    Places t (pairs_in places len) places len → Places t (pairs_in places len ++ (h ∷ [])) (set places len at) (len + 1)
-places_push t places len h at low is p =
+pub places_push : (places : List Pair) (len : ℕ) (h : Pair) → len < 128 →
+    Places (take len places) places len → Places (take len places ++ (h ∷ [])) (set places len h) (len + 1)
+places_push places len h low p =
     record {
-      room = length-set places len at ∙ p.room;
+      room = length-set places len h ∙ p.room;
       within = omega arith;
-      kept =
-          take_more_set places len at (omega (arith, p.room))
-          ∙ ap (λ xs. xs ++ (at ∷ [])) p.kept
-          ∙ ap (λ a. map (kept_of t) (pairs_in places len) ++ (a ∷ [])) is
-          ∙ sym (map-append (kept_of t) (pairs_in places len) (h ∷ []));
+      kept = take_more_set places len h (omega (arith, p.room));
     }
 
-pub lists_none : (t : Tables) (nothing : Listed) → Lists t [] (record { places = replicate 128 nothing; len = 0; provided = 0; listed = replicate 16 0; led = replicate 16 0 })
+pub lists_none : (t : Tables) (nothing : Pair) → Lists t [] (record { places = replicate 128 nothing; len = 0; provided = 0; listed = replicate 16 0; led = replicate 16 0 })
 lists_none t nothing =
     record {
       places = record { room = length-replicate 128 nothing; within = omega arith; kept = refl };
@@ -149,7 +172,7 @@ lists_none t nothing =
 pub lists_push : (t : Tables) (s : Listing) (h : Pair) (entry : State) (one : ℕ) → s.len < 128 → h.kind < 16 → h.state < 8 →
     entry ≡ entry_at t h.kind h.state → one ≡ 128 / 2 ^ h.state → Lists t (pairs_of s) s →
     Lists t (pairs_of s ++ (h ∷ [])) (record {
-      places = set s.places s.len (record { pair = h; provided = entry.provided });
+      places = set s.places s.len h;
       len = s.len + 1;
       provided = bit_or s.provided entry.provided;
       listed = set s.listed h.kind (bit_or (get_or s.listed h.kind 0) one);
@@ -158,17 +181,9 @@ pub lists_push : (t : Tables) (s : Listing) (h : Pair) (entry : State) (one : �
 lists_push t s h entry one low kind state is alone lists =
     rw (is, alone)
     (record {
-      places = places_push t s.places s.len h (kept_of t h) low refl lists.places;
+      places = places_push s.places s.len h low lists.places;
       sets = sets_push t (pairs_of s) h s.provided s.listed s.led kind state lists.sets;
     })
-
--- the pairs of the places are those that they keep
-pub places_pairs : (t : Tables) (l : List Pair) (places : List Listed) (len : ℕ) → Places t l places len → pairs_in places len ≡ l
-places_pairs t l places len p = ap (map (λ e. e.pair)) p.kept ∙ back l
-  where
-    back : (l : List Pair) → map (λ e. e.pair) (map (kept_of t) l) ≡ l
-    back [] = refl
-    back (h ∷ hs) = ap (λ xs. h ∷ xs) (back hs)
 
 -- the numbers of a pair of the universe are small
 pub pair_small : (h : Universe) (k q : ℕ) → IsPair (universe_in h) k q → (k < 16) × (q < 8)
@@ -179,9 +194,8 @@ pair_small h k q (low, at) =
     (omega arith, omega arith)
 
 -- the listing has as many pairs as it counts
-pub places_length : (t : Tables) (l : List Pair) (places : List Listed) (len : ℕ) → Places t l places len → length l ≡ len
-places_length t l places len p =
-    sym (length-map l (kept_of t)) ∙ ap length (sym p.kept) ∙ length-take-le len places (omega (arith, p.room, p.within))
+pub places_length : (l places : List Pair) (len : ℕ) → Places l places len → length l ≡ len
+places_length l places len p = ap length (sym p.kept) ∙ length-take-le len places (omega (arith, p.room, p.within))
 
 pub lists_tracks : (t : Tables) (l : List Pair) (s : Listing) → Lists t l s → Lists t (pairs_of s) s
-lists_tracks t l s lists = rw (places_pairs t l s.places s.len lists.places) lists
+lists_tracks t l s lists = rw lists.places.kept lists

@@ -1,4 +1,5 @@
 pub mod Places
 pub mod Listing
+pub mod Ranks
 pub mod Kept
 pub mod Order

@@ -4,3 +4,4 @@
 mod listing;
 mod lookup;
 pub mod order;
+mod ranks;

@@ -1,16 +1,11 @@
 // Building the closing order, pair by pair.
 ghost use Rattle.std.specs.Prelude.{◌≡◌, ◌<◌, ◌/◌, ◌^◌, ◌++◌, ◌∷◌, [], slice_index};
-ghost use Rattle.std.specs.List.{list_any};
-ghost use Rattle.model.specs.Config.{pair};
-ghost use Rattle.model.specs.Search.{find_first};
 ghost use Rattle.model.specs.Universe.{IsPair};
 ghost use Rattle.universe.specs.declared.tables.Tables.{Tables};
 ghost use Rattle.universe.specs.Held.{universe_in};
-ghost use Rattle.plans.specs.Lists.{listed, some_if};
-ghost use Rattle.plans.specs.Closing.{addable, closing, follows, initial_pairs, lacks, next_pair};
-ghost use Rattle.closing.specs.Listing.{Lists, Tracks, exceeds, pairs_of};
+ghost use Rattle.plans.specs.Closing.{addable, closing, initial_pairs, lacks, next_pair};
+ghost use Rattle.closing.specs.Listing.{Lists, Tracks, Waits, exceeds, next_of, pairs_of};
 
-use crate::order::Listed;
 use model::pair::Pair;
 use universe::held::Universe;
 use universe::sets::Field;
@@ -19,7 +14,7 @@ use universe::sets::Field;
 // listed pairs provide, and for each type the listed states and the successors of listed states.
 #[derive(Clone, Copy)]
 pub(crate) struct Listing {
-    pub(crate) places: [Listed; 128],
+    pub(crate) places: [Pair; 128],
     pub(crate) len: usize,
     provided: u32,
     listed: [u8; 16],
@@ -54,12 +49,8 @@ impl Listing {
     fn empty() -> Listing
         ensures { (t : Tables) → Lists t [] result }
     {
-        let nothing = Listed {
-            pair: Pair { kind: 0, state: 0 },
-            provided: 0,
-        };
         Listing {
-            places: [nothing; 128],
+            places: [Pair { kind: 0, state: 0 }; 128],
             len: 0,
             provided: 0,
             listed: [0; 16],
@@ -97,10 +88,7 @@ impl Listing {
         ensures { Lists universe.now.tables (pairs_of self.old ++ (pair ∷ [])) self.new }
     {
         let entry = universe.entry(u32::from(pair.kind), u32::from(pair.state));
-        self.places[self.len] = Listed {
-            pair,
-            provided: entry.provided,
-        };
+        self.places[self.len] = pair;
         self.len += 1;
         self.provided |= entry.provided;
         let kind = usize::from(pair.kind);
@@ -108,20 +96,13 @@ impl Listing {
         self.led[kind] |= entry.successors;
     }
 
-    // Whether the pair is listed.
-    fn is_listed(&self, universe: &Universe, pair: Pair) -> bool
+    // The states of the type that are not listed, and that listed pairs have as successors.
+    #[tactic(auto, using(crate::proofs::Tracking::waiting_told))]
+    fn waiting(&self, universe: &Universe, kind: u8) -> u8
         requires tracks { Tracks universe.now.tables self.now }
-        ensures { result ≡ listed (pairs_of self.now) pair }
+        ensures { Waits (universe_in universe.now) (pairs_of self.now) kind result }
     {
-        states_of(&self.listed, pair.kind).has(u32::from(pair.state))
-    }
-
-    // Whether a listed pair has the pair as a successor.
-    fn is_led(&self, universe: &Universe, pair: Pair) -> bool
-        requires tracks { Tracks universe.now.tables self.now }
-        ensures { result ≡ list_any (follows (universe_in universe.now) pair) (pairs_of self.now) }
-    {
-        states_of(&self.led, pair.kind).has(u32::from(pair.state))
+        states_of(&self.led, kind) & !states_of(&self.listed, kind)
     }
 
     // Whether the pair requires a port that no listed pair provides.
@@ -134,26 +115,39 @@ impl Listing {
         exceeds(entry.required, self.provided)
     }
 
-    // Whether the pair can be added.
-    #[tactic(auto, unfolding(plans::specs::Closing::addable))]
-    fn is_addable(&self, universe: &Universe, pair: Pair) -> bool
+    // Whether the pair can be added, where the set has those of its type that wait.
+    #[tactic(auto, using(crate::proofs::Tracking::addable_told))]
+    fn is_addable(&self, universe: &Universe, waiting: u8, pair: Pair) -> bool
         requires tracks { Tracks universe.now.tables self.now }
+        requires waits { Waits (universe_in universe.now) (pairs_of self.now) pair.kind waiting }
         ensures { result ≡ addable (universe_in universe.now) (pairs_of self.now) pair }
     {
-        !self.is_listed(universe, pair)
-            && self.is_led(universe, pair)
-            && !self.lacks(universe, pair)
+        waiting.has(u32::from(pair.state)) && !self.lacks(universe, pair)
     }
 
-    // The lowest state of the type that can be added.
-    fn next_of(&self, universe: &Universe, kind: u8) -> Option<Pair>
+    // The lowest state that can be added, of a type of which the set has the states that wait.
+    fn next_among(&self, universe: &Universe, kind: u8, waiting: u8) -> Option<Pair>
         requires tracks { Tracks universe.now.tables self.now }
-        ensures { result ≡ find_first (λ q. some_if (addable (universe_in universe.now) (pairs_of self.now) (pair kind q)) (pair kind q)) ((universe_in universe.now).states kind) }
+        requires waits { Waits (universe_in universe.now) (pairs_of self.now) kind waiting }
+        ensures { result ≡ next_of (universe_in universe.now) (pairs_of self.now) kind }
     {
         (0..universe.states(u32::from(kind))).find_map(|state| {
             let pair = Pair { kind, state };
-            self.is_addable(universe, pair).then_some(pair)
+            self.is_addable(universe, waiting, pair).then_some(pair)
         })
+    }
+
+    // The lowest state of the type that can be added.
+    #[tactic(auto, using(crate::proofs::Tracking::none_waiting))]
+    fn next_of(&self, universe: &Universe, kind: u8) -> Option<Pair>
+        requires tracks { Tracks universe.now.tables self.now }
+        ensures { result ≡ next_of (universe_in universe.now) (pairs_of self.now) kind }
+    {
+        let waiting = self.waiting(universe, kind);
+        if waiting == 0 {
+            return None;
+        }
+        self.next_among(universe, kind, waiting)
     }
 
     // The lowest pair that can be added.

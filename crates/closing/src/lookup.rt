@@ -1,50 +1,20 @@
 // Lookups in the closing order.
-ghost use Rattle.std.specs.Prelude.{◌≡◌, length, position, slice_get, take};
-ghost use Rattle.universe.specs.Held.{universe_in};
-ghost use Rattle.universe.specs.Sets.{has};
+ghost use Rattle.std.specs.Prelude.{◌≡◌, length, position, slice_get};
 ghost use Rattle.plans.specs.Lists.{rank_of, same_pair};
-ghost use Rattle.plans.specs.Closing.{follows, parent_rank, supplier_rank};
+ghost use Rattle.plans.specs.Closing.{parent_rank, supplier_rank};
 ghost use Rattle.closing.specs.Order.{pairs_in_order, universe_in_order};
 
 use crate::listing::Listing;
-use crate::order::{ClosingOrder, Listed};
+use crate::order::ClosingOrder;
+use crate::ranks::Ranks;
 use model::pair::Pair;
 use universe::held::Universe;
-use universe::sets::Field;
-
-// Whether the pair has the other, of the same type, as a successor.
-fn leads(universe: &Universe, from: Pair, to: Pair) -> bool
-    ensures { result ≡ follows (universe_in universe.now) to from }
-{
-    from.kind == to.kind
-        && universe.is_successor(
-            u32::from(from.kind),
-            u32::from(from.state),
-            u32::from(to.state),
-        )
-}
 
 // The first place that holds the pair.
-fn place_of(places: &[Listed], pair: Pair) -> Option<usize>
-    ensures { result ≡ position (λ e. same_pair pair e.pair) places.now }
+fn place_of(places: &[Pair], pair: Pair) -> Option<usize>
+    ensures { result ≡ position (same_pair pair) places.now }
 {
-    places.iter().position(|listed| pair == listed.pair)
-}
-
-// The first place whose pair has the pair as a successor.
-fn place_leading(universe: &Universe, places: &[Listed], pair: Pair) -> Option<usize>
-    ensures { result ≡ position (λ e. follows (universe_in universe.now) pair e.pair) places.now }
-{
-    places
-        .iter()
-        .position(|listed| leads(universe, listed.pair, pair))
-}
-
-// The first place whose pair provides the port.
-fn place_providing(places: &[Listed], port: u32) -> Option<usize>
-    ensures { result ≡ position (λ e. has 32 e.provided port) places.now }
-{
-    places.iter().position(|listed| listed.provided.has(port))
+    places.iter().position(|listed| pair == *listed)
 }
 
 impl ClosingOrder {
@@ -53,10 +23,12 @@ impl ClosingOrder {
         ensures { result.universe ≡ universe.now }
     {
         let Listing { places, len, .. } = Listing::whole(universe);
+        let ranks = Ranks::of(universe, &places[..len]);
         ClosingOrder {
             universe: *universe,
             places,
             len,
+            ranks,
         }
     }
 
@@ -74,9 +46,9 @@ impl ClosingOrder {
         self.len
     }
 
-    // The places of the listed pairs.
-    fn places(&self) -> &[Listed]
-        ensures { result.now ≡ take self.now.len self.now.places }
+    // The listed pairs.
+    fn pairs(&self) -> &[Pair]
+        ensures { result.now ≡ pairs_in_order self.now }
     {
         &self.places[..self.len]
     }
@@ -85,14 +57,14 @@ impl ClosingOrder {
     pub fn pair(&self, rank: usize) -> Option<Pair>
         ensures { result ≡ slice_get (pairs_in_order self.now) rank }
     {
-        self.places().get(rank).map(|listed| listed.pair)
+        self.pairs().get(rank).copied()
     }
 
     // The rank of the pair; the number of listed pairs where it is not listed.
     pub fn rank(&self, pair: Pair) -> usize
         ensures { result ≡ rank_of (pairs_in_order self.now) pair }
     {
-        place_of(self.places(), pair).unwrap_or(self.len)
+        place_of(self.pairs(), pair).unwrap_or(self.len)
     }
 
     // The rank of the parent of the pair, the lowest that has it as a successor; the number of
@@ -100,13 +72,13 @@ impl ClosingOrder {
     pub fn parent(&self, pair: Pair) -> usize
         ensures { result ≡ parent_rank (universe_in_order self.now) (pairs_in_order self.now) pair }
     {
-        place_leading(&self.universe, self.places(), pair).unwrap_or(self.len)
+        self.ranks.parent(pair, self.len)
     }
 
     // The rank of the supplier of the port, the lowest that provides it; the number of listed pairs where none does.
     pub fn supplier(&self, port: u32) -> usize
         ensures { result ≡ supplier_rank (universe_in_order self.now) (pairs_in_order self.now) port }
     {
-        place_providing(self.places(), port).unwrap_or(self.len)
+        self.ranks.supplier(port, self.len)
     }
 }

@@ -1,6 +1,9 @@
-use Rattle.std.proofs.Common.{refl, rules}
-use Rattle.model.proofs.Ranges.{first_over}
+use Rattle.universe.specs.Held.{universe_in}
+use Rattle.closing.specs.Listing.{pairs_of}
+use Rattle.closing.proofs.Tracking.{none_waiting}
 use Rattle.closing.proofs.listing.Listing.next_of.Goals as goal
 
-pub returns : goal.returns
-returns c = first_over _ _ _ _ _ refl (rw c.from.ensures at c.states.ensures) c.find_map.ensures.runs (λ x a q k. search rules)
+pub returns-then-waiting-eq0 : goal.returns-then-waiting-eq0
+returns-then-waiting-eq0 c =
+    none_waiting (universe_in c.args.universe.now) (pairs_of c.args.self.now) c.args.kind c.waiting-waiting.result c.waiting-waiting.ensures
+    c.if-waiting-eq0.true
