@@ -26,6 +26,13 @@ either (suc zero) (suc zero) l m = refl
 either (suc zero) (suc (suc y)) l m = absurd (omega arith)
 either (suc (suc x)) y l m = absurd (omega arith)
 
+both : (x y : ℕ) → x < 2 → y < 2 → eqb (min x y) 1 ≡ (eqb x 1 && eqb y 1)
+both zero y l m = let none : min 0 y ≡ 0 = omega arith in rw none
+both (suc zero) zero l m = refl
+both (suc zero) (suc zero) l m = refl
+both (suc zero) (suc (suc y)) l m = absurd (omega arith)
+both (suc (suc x)) y l m = absurd (omega arith)
+
 module _ (w : ℕ) where
   pub has_or : (a b p : ℕ) → has w (bit_or a b) p ≡ (has w a p || has w b p)
   has_or a b p =
@@ -33,6 +40,14 @@ module _ (w : ℕ) where
         | inl l ↦ rw (has_bit w (bit_or a b) p l, has_bit w a p l, has_bit w b p l, bit_at_or a b (w - 1 - p))
             (either (bit_at a (w - 1 - p)) (bit_at b (w - 1 - p)) (bit_at-lt a (w - 1 - p)) (bit_at-lt b (w - 1 - p)))
         | inr g ↦ rw (has_past w (bit_or a b) p g, has_past w a p g, has_past w b p g)
+      ]
+
+  pub has_and : (a b p : ℕ) → has w (bit_and a b) p ≡ (has w a p && has w b p)
+  has_and a b p =
+      elim (cases_lt p w) [
+        | inl l ↦ rw (has_bit w (bit_and a b) p l, has_bit w a p l, has_bit w b p l, bit_at_and a b (w - 1 - p))
+            (both (bit_at a (w - 1 - p)) (bit_at b (w - 1 - p)) (bit_at-lt a (w - 1 - p)) (bit_at-lt b (w - 1 - p)))
+        | inr g ↦ rw (has_past w (bit_and a b) p g, has_past w a p g)
       ]
 
   pub has_none : (p : ℕ) → has w 0 p ≡ false

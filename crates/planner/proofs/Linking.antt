@@ -1,9 +1,12 @@
 -- The suppliers of a plan, and what is written of its links, steps, instances and script. Assumes nothing.
-use Rattle.std.proofs.Common.{List, [], ◌∷◌, ◌≡◌, ℕ, zero, suc, ◌+◌, ◌-◌, ◌^◌, ◌<◌, ◌≤◌, Bool, true, false, not, ◌&&◌, length, drop, get_or, ◌∙◌, subst, IsOk, All, eqb, refl, inl, inr, arith}
+use Rattle.std.proofs.Common.{◌&&◌, List, [], ◌∷◌, ◌≡◌, ℕ, zero, suc, ◌+◌, ◌-◌, ◌^◌, ◌<◌, ◌≤◌, Bool, true, false, not, length, drop, get_or, ap, sym, ltb, ◌∙◌, subst, IsOk, All, eqb, refl, inl, inr, arith}
 use denote.Param.Members.{Mut, Called}
+use lib.Bits.{bit_and}
+use Rattle.std.specs.Int.{bit_not, w32}
+use Rattle.std.proofs.Math.Path.{fun_ext}
 use Rattle.std.specs.Array.{IsFromFnResultFrom}
 use Rattle.std.proofs.lemmas.Bool.Decides.{nat_tests}
-use Rattle.std.proofs.lemmas.Bool.{and_parts, cases_eq, eq-eqb}
+use Rattle.std.proofs.lemmas.Bool.{cases_eq, eq-eqb, le-ltb}
 use Rattle.std.proofs.lemmas.List.{drop_all, drop_more}
 use Rattle.std.proofs.lemmas.List.Folds.{list_any_at}
 use Rattle.std.proofs.lemmas.List.Sums.{prefix_len-le-length}
@@ -13,10 +16,10 @@ use Rattle.model.specs.declared.order.Order.{Order}
 use Rattle.model.specs.declared.order.Order.TheVariants.{Create, Change}
 use Rattle.model.specs.Universe.{Universe, Valid}
 use Rattle.universe.specs.Sets.{has}
-use Rattle.universe.proofs.PackedSets.{has_below}
 use Rattle.universe.specs.Tables.{entry_at}
 use Rattle.closing.specs.declared.order.ClosingOrder.{ClosingOrder}
 use Rattle.closing.specs.Order.{pairs_in_order, universe_in_order}
+use Rattle.closing.proofs.Masks.{has_and_not, has_none}
 use Rattle.lines.specs.Line.{encoded}
 use Rattle.plans.specs.Plan.{Plan, binding, build, order_if, port_orders, script_of, step, walk}
 use Rattle.plans.proofs.Closed.{Closed}
@@ -60,10 +63,6 @@ pub link_in_line : (link : Link) (p x y : ℕ) → p < 32 → x < 256 → y < 25
 link_in_line Made p x y a b c = grind (arith, nat_tests)
 link_in_line Ended p x y a b c = grind (arith, nat_tests)
 
--- a port that is new in a set is in range
-pub new_low : (before after p : ℕ) → (has 32 after p && not (has 32 before p)) ≡ true → p < 32
-new_low before after p e = has_below 32 after p (and_parts (has 32 after p) _ e).0
-
 -- an order that is written if a test holds
 module _ {b : Bool} (o : Order) where
   pub wrote_if : {xs zs : List ℕ} {j m : ℕ} → b ≡ true → Wrote xs j (o ∷ []) zs m → Wrote xs j (order_if b o) zs m
@@ -72,14 +71,32 @@ module _ {b : Bool} (o : Order) where
   pub wrote_unless : (xs : List ℕ) (j : ℕ) → b ≡ false → Wrote xs j (order_if b o) xs j
   wrote_unless xs j e = rw e (wrote_none xs j)
 
+-- what is in one set of ports and not in another
+pub new_told : (absent present : ℕ) → absent < 2 ^ 32 → (p : ℕ) →
+    has 32 (bit_and present (bit_not w32 absent)) p ≡ (has 32 present p && not (has 32 absent p))
+new_told absent present small = has_and_not w32 present absent small
+
+-- of an empty set there are no links
+no_links : (n : ℕ) (link : Link) (supplier : ℕ → ℕ) (z : ℕ) → links n link supplier z 0 ≡ []
+unfolding lists_below
+no_links zero link supplier z = refl
+no_links (suc n) link supplier z = rw (no_links n link supplier z, has_none 32 n)
+
+pub wrote_no_links : (n : ℕ) (link : Link) (supplier : ℕ → ℕ) (z ports : ℕ) (xs : List ℕ) (j : ℕ) → ports ≡ 0 →
+    Wrote xs j (links n link supplier z ports) xs j
+wrote_no_links n link supplier z ports xs j none = rw (none, no_links n link supplier z) (wrote_none xs j)
+
 -- the ports that are new in a state are those that are new in what it requires
-pub wrote_links : (c : ClosingOrder) (ns : List Pair) (link : Link) (z q r a b : ℕ) {xs ys : List ℕ} {i j : ℕ} →
+pub wrote_links : (c : ClosingOrder) (ns : List Pair) (link : Link) (z q r a b new : ℕ) {xs ys : List ℕ} {i j : ℕ} →
+    ((p : ℕ) → has 32 new p ≡ (has 32 b p && not (has 32 a p))) →
     a ≡ (entry_at c.universe.tables (pair_at ns z).kind q).required →
     b ≡ (entry_at c.universe.tables (pair_at ns z).kind r).required →
-    Wrote xs i (links (universe_in_order c).ports link (plan_on c ns).supplier z a b) ys j →
+    Wrote xs i (links (universe_in_order c).ports link (plan_on c ns).supplier z new) ys j →
     Wrote xs i (port_orders (linked link) (universe_in_order c) (plan_on c ns) z q r) ys j
 unfolding port_orders
-wrote_links c ns link z q r a b before after w = rw (before, after) at w
+wrote_links c ns link z q r a b new told before after w =
+    rw (← before, ← after)
+    (rw (fun_ext (λ p. ap (λ t. order_if t (linked link (binding p ((plan_on c ns).supplier p) z))) (told p))) at w)
 
 -- a walk is its steps, one behind the other
 module _ (u : Universe) (s : Plan) (z : ℕ) (rs : List ℕ) (xs : List ℕ) (j : ℕ) where
@@ -165,3 +182,7 @@ module _ (c : ClosingOrder) (ns : List Pair) where
       Wrote xs i (script_of (universe_in_order c) (plan_on c ns)) zs k
   unfolding script_of
   wrote_script n all w = rw all at w
+
+-- a list of as many places as a script may have lines is short of no script
+pub never_short : (n m : ℕ) → n ≤ 11136 → 11136 ≤ m → false ≡ ltb m n
+never_short n m most long = sym (le-ltb m n (omega arith))

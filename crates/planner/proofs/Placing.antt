@@ -23,9 +23,14 @@ wrote_none xs j = record { place = refl; lines = refl }
 
 -- one line, where the list has its place, and where it has not
 module _ (xs : List ℕ) (j : ℕ) (o : Order) where
-  pub wrote_line : Wrote xs j (o ∷ []) (set xs j (line_of o)) (behind j)
+  wrote_line : Wrote xs j (o ∷ []) (set xs j (line_of o)) (behind j)
   unfolding written_at place_behind
   wrote_line = record { place = refl; lines = refl }
+
+  pub wrote_there : j + 1 ≤ 2 ^ 64 - 1 → Wrote xs j (o ∷ []) (set xs j (line_of o)) (j + 1)
+  wrote_there counted =
+      let next : behind j ≡ j + 1 = omega arith in
+      rw next at wrote_line
 
   pub wrote_past : length xs ≤ j → Wrote xs j (o ∷ []) xs (behind j)
   unfolding written_at place_behind

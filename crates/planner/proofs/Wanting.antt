@@ -1,7 +1,7 @@
 -- The needed pairs, found from the highest rank down, with the set of the ports that their paths require. Assumes
 -- nothing.
 use Rattle.std.proofs.Common.{List, [], ◌∷◌, ◌≡◌, ℕ, zero, suc, ◌+◌, ◌-◌, ◌<◌, ◌≤◌, Bool, true, false, cond, ◌&&◌, ◌||◌, eqb, drop, get_or, length, take, refl, sym, ap, subst, ◌∙◌, add-one, arith}
-use lib.Bits.{bit_or}
+use lib.Bits.{bit_and, bit_or}
 use mathlib.Core.Bool.{false≢true}
 use Rattle.std.proofs.Math.Bool.{or_comm}
 use Rattle.std.specs.List.{list_any}
@@ -19,13 +19,15 @@ use Rattle.universe.specs.declared.tables.Tables.{Tables}
 use Rattle.universe.specs.Sets.{has}
 use Rattle.universe.specs.Tables.{entry_at, universe_of}
 use Rattle.plans.specs.Lists.{listed, pair_at, rank_of}
-use Rattle.plans.specs.Closing.{supplier_rank}
+use Rattle.plans.specs.Closing.{provides, supplier_rank}
 use Rattle.plans.specs.Needs.{needed_among, path_requires, serves}
 use Rattle.plans.proofs.Closed.{Closed}
 use Rattle.plans.proofs.Closings.{pair_count_small}
+use Rattle.plans.proofs.Ranks.{first_passes}
+use Rattle.std.proofs.lemmas.Bool.{and_from, and_parts, both_ways, eqb-true}
 use Rattle.closing.specs.declared.order.ClosingOrder.{ClosingOrder}
 use Rattle.closing.specs.Order.{pairs_in_order, universe_in_order}
-use Rattle.closing.proofs.Masks.{has_none, has_or}
+use Rattle.closing.proofs.Masks.{has_and, has_none, has_or}
 use Rattle.planner.specs.declared.needs.Needed.{Needed}
 use Rattle.planner.specs.Held.{NeededFits, is_needed, pairs_of_needed, supplies}
 use Rattle.planner.proofs.Climbing.{closed_order, valid_order}
@@ -102,6 +104,30 @@ module _ (u : Universe) (l : List Pair) where
       most : (b : Bool) (x : Pair) (ns : List Pair) → length (cond b (x ∷ ns) ns) ≤ length ns + 1
       most true x ns = omega arith
       most false x ns = omega arith
+
+-- a pair that provides none of the ports supplies none
+pub supplies_none : (o : ClosingOrder) (ports rank provided : ℕ) (h : Pair) → rank < length (pairs_in_order o) →
+    h ≡ pair_at (pairs_in_order o) rank → provided ≡ (entry_at o.universe.tables h.kind h.state).provided →
+    bit_and provided ports ≡ 0 → false ≡ supplies (universe_in_order o) (pairs_in_order o) ports rank
+supplies_none o ports rank provided h low is told none = sym (any_none_of _ (universe_in_order o).ports out)
+  where
+    u : Universe
+    u = universe_in_order o
+
+    l : List Pair
+    l = pairs_in_order o
+
+    out : (p : ℕ) → p < u.ports → (has 32 ports p && eqb (supplier_rank u l p) rank) ≡ true → ⊥
+    out p below e =
+        let w = and_parts (has 32 ports p) (eqb (supplier_rank u l p) rank) e in
+        let here = eqb-true (supplier_rank u l p) rank w.1 in
+        let passes = first_passes (provides u p) l (omega (arith, here, low)) in
+        let there : has 32 provided p ≡ true =
+        ap (λ n. has 32 n p) told
+        ∙ ap (λ (g : Pair). has 32 (entry_at o.universe.tables g.kind g.state).provided p) (is ∙ ap (pair_at l) (sym here))
+        ∙ passes in
+        both_ways (has 32 (bit_and provided ports) p) (ap (λ n. has 32 n p) none ∙ has_none 32 p)
+        (has_and 32 provided ports p ∙ and_from (has 32 provided p) (has 32 ports p) there w.0)
 
 -- from the rank k on, the needed pairs are found, with the ports that their paths require
 pub record Turn (u : Universe) (l goal : List Pair) (k : ℕ) (n : Needed) (wanted : ℕ) : Type 0 where

@@ -1,5 +1,5 @@
 -- Lines written into a caller's list.
-use Rattle.std.specs.Prelude.{◌≡◌, ℕ, ◌+◌, ◌-◌, ◌^◌, ◌<◌, ◌≤◌, not, ◌&&◌, List, [], ◌∷◌, length, min, set, slice_index, true}
+use Rattle.std.specs.Prelude.{◌≡◌, ℕ, ◌+◌, ◌-◌, ◌^◌, ◌<◌, ◌≤◌, List, [], ◌∷◌, length, min, set, slice_index, true}
 use Rattle.model.specs.declared.binding.Binding.{Binding}
 use Rattle.model.specs.declared.order.Order.{Order}
 use Rattle.model.specs.declared.order.Order.TheVariants.{Bind, Unbind}
@@ -42,11 +42,10 @@ abbrev pub linked : Link → Binding → Order
 linked Made = Bind
 linked Ended = Unbind
 
--- in port order, for each port below n in the set present and not in the set absent: the order for the binding to its
--- supplier
-abbrev pub links : ℕ → Link → (ℕ → ℕ) → ℕ → ℕ → ℕ → List Order
-links n link supplier z absent present =
-    lists_below (λ p. order_if (has 32 present p && not (has 32 absent p)) (linked link (binding p (supplier p) z))) n
+-- in port order, for each port below n in the set: the order for the binding to its supplier
+abbrev pub links : ℕ → Link → (ℕ → ℕ) → ℕ → ℕ → List Order
+links n link supplier z ports =
+    lists_below (λ p. order_if (has 32 ports p) (linked link (binding p (supplier p) z))) n
 
 -- the plan for the pairs ns of the closing order
 abbrev pub plan_on : ClosingOrder → List Pair → Plan

@@ -1,6 +1,7 @@
 // The pairs that a goal needs.
-ghost use Rattle.std.specs.Prelude.{◌≡◌, ◌∷◌, ◌<◌, ℕ, true};
+ghost use Rattle.std.specs.Prelude.{◌≡◌, ◌∷◌, ◌<◌, ℕ, length, true};
 ghost use Rattle.universe.specs.Sets.{has};
+ghost use Rattle.universe.specs.Tables.{entry_at};
 ghost use Rattle.plans.specs.Lists.{listed};
 ghost use Rattle.plans.specs.Needs.{needed, path_requires};
 ghost use Rattle.closing.specs.Order.{pairs_in_order, universe_in_order};
@@ -57,8 +58,8 @@ fn path_ports(order: &ClosingOrder, pair: Pair) -> u32
     ports
 }
 
-// Whether the pair of the rank is the supplier of one of the ports.
-fn supplies(order: &ClosingOrder, ports: u32, rank: usize) -> bool
+// Whether the pair of the rank is the supplier of one of the ports, asked of each.
+fn supplies_some(order: &ClosingOrder, ports: u32, rank: usize) -> bool
     ensures { result ≡ supplies (universe_in_order order.now) (pairs_in_order order.now) ports rank }
 {
     (0..u32::from(order.universe().ports())).any(|port| {
@@ -66,8 +67,28 @@ fn supplies(order: &ClosingOrder, ports: u32, rank: usize) -> bool
     })
 }
 
+// The ports that the pair provides.
+fn provided(order: &ClosingOrder, pair: Pair) -> u32
+    ensures { result ≡ (entry_at order.now.universe.tables pair.kind pair.state).provided }
+{
+    order
+        .universe()
+        .entry(u32::from(pair.kind), u32::from(pair.state))
+        .provided
+}
+
+// Whether the pair of the rank is the supplier of one of the ports. A supplier provides its port, so
+// most pairs are passed over at once.
+fn supplies(order: &ClosingOrder, ports: u32, rank: usize) -> bool
+    requires { rank < length (pairs_in_order order.now) }
+    ensures { result ≡ supplies (universe_in_order order.now) (pairs_in_order order.now) ports rank }
+{
+    provided(order, pair_at(order, rank)) & ports != 0 && supplies_some(order, ports, rank)
+}
+
 // Whether the pair of the rank is in the goal, or the supplier of one of the ports.
 fn is_needed(order: &ClosingOrder, goal: &[u8], ports: u32, rank: usize) -> bool
+    requires { rank < length (pairs_in_order order.now) }
     ensures { result ≡ is_needed (universe_in_order order.now) (pairs_in_order order.now) (goal_of goal.now) ports rank }
 {
     has_pair(goal, pair_at(order, rank)) || supplies(order, ports, rank)

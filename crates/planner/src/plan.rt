@@ -1,5 +1,5 @@
 // Planning a goal into a caller's list.
-ghost use Rattle.std.specs.Prelude.{◌≡◌, Ok, length};
+ghost use Rattle.std.specs.Prelude.{◌≡◌, ◌≤◌, Ok, length};
 ghost use Rattle.universe.specs.Held.{universe_in};
 ghost use Rattle.plans.specs.Script.{script};
 ghost use Rattle.closing.specs.Order.{universe_in_order};
@@ -20,6 +20,7 @@ pub const MOST_LINES: usize = 11136;
 // the list has fewer places.
 #[tactic(auto, unfolding(plans::specs::Script::script))]
 fn write_script(order: &ClosingOrder, goal: &[u8], lines: &mut [u32]) -> Result<usize, PlanRefusal>
+    requires { length goal.now ≤ 16 }
     ensures answer { result ≡ plan_answer (Ok (script (universe_in_order order.now) (goal_of goal.now))) (length lines.old) }
     ensures lines { lines.new ≡ list_after (Ok (script (universe_in_order order.now) (goal_of goal.now))) lines.old }
 {

@@ -1,6 +1,6 @@
 // Writing the lines of a script.
 ghost use Rattle.std.specs.Prelude.{◌≡◌, ◌∷◌, [], ◌++◌, ◌<◌, ◌≤◌, ◌^◌, ◌&&◌, ℕ, Ok};
-ghost use Rattle.std.specs.Prelude.{IsOk, drop, length, map, not, position, slice_index};
+ghost use Rattle.std.specs.Prelude.{IsOk, drop, length, map, nat_lt, not, position, slice_index};
 ghost use Rattle.std.specs.List.{All};
 ghost use Rattle.model.specs.declared.order.Order.TheVariants.{Change, Create};
 ghost use Rattle.lines.specs.Line.{encoded};
@@ -13,6 +13,7 @@ ghost use Rattle.planner.specs.Writing.{AllListed, PlanFits, Wrote, line_of, lin
 ghost use Rattle.planner.specs.Planning.{list_after, plan_answer};
 
 use crate::path::{pair_at, path_of};
+use crate::plan::MOST_LINES;
 use crate::refusal::PlanRefusal;
 use closing::order::ClosingOrder;
 use lines::encode;
@@ -85,11 +86,12 @@ fn suppliers_of(order: &ClosingOrder, pairs: &[Pair]) -> [u8; 32]
     array::from_fn(|port| supplier_of(order, pairs, port as u32))
 }
 
-// Whether the port is in the set `present` and not in the set `absent`.
-fn is_new(absent: u32, present: u32, port: u32) -> bool
-    ensures { result ≡ (has 32 present port && not (has 32 absent port)) }
+// The ports that are in the set `present` and not in the set `absent`.
+#[tactic(auto, using(crate::proofs::Linking::new_told))]
+fn new_ports(absent: u32, present: u32) -> u32
+    ensures { (p : ℕ) → has 32 result p ≡ (has 32 present p && not (has 32 absent p)) }
 {
-    present.has(port) && !absent.has(port)
+    present & !absent
 }
 
 // The order to create an instance of a type.
@@ -121,15 +123,15 @@ fn line_of(order: Order) -> u32
 }
 
 // Writes the line of the order at the place, if the list has that place, and answers the next.
-#[tactic(auto, using(crate::proofs::Placing::wrote_line, crate::proofs::Placing::wrote_past))]
 fn put(lines: &mut [u32], place: usize, order: Order) -> usize
     requires { IsOk (encoded order) }
     ensures { Wrote lines.old place (order ∷ []) lines.new result }
 {
-    if place < lines.len() {
-        lines[place] = line_of(order);
+    if place >= lines.len() {
+        return place.saturating_add(1);
     }
-    place.saturating_add(1)
+    lines[place] = line_of(order);
+    place + 1
 }
 
 // What writes lines answers the place behind them.
@@ -206,22 +208,20 @@ impl<'a> Plan<'a> {
         put(lines, place, link.order(self.binding(port, number)))
     }
 
-    // Writes, in port order, for each port that is in the set `present` and not in the set `absent`,
-    // the order for the binding to its supplier.
-    fn write_new(
+    // Writes, in port order, for each port of the set, the order for the binding to its supplier.
+    fn write_ports(
         &self,
         lines: &mut [u32],
         place: usize,
         link: Link,
         number: u8,
-        absent: u32,
-        present: u32,
+        ports: u32,
     ) -> usize
-        ensures { Wrote lines.old place (links (universe_planned self.now).ports link (plan_of self.now).supplier number absent present) lines.new result }
+        ensures { Wrote lines.old place (links (universe_planned self.now).ports link (plan_of self.now).supplier number ports) lines.new result }
     {
         let mut place = place;
         for port in 0..u32::from(self.order.universe().ports()) {
-            if is_new(absent, present, port) {
+            if ports.has(port) {
                 place = self.write_link(lines, place, link, number, port);
             }
         }
@@ -244,7 +244,11 @@ impl<'a> Plan<'a> {
     {
         let absent = self.required(number, absent);
         let present = self.required(number, present);
-        self.write_new(lines, place, link, number, absent, present)
+        let ports = new_ports(absent, present);
+        if ports == 0 {
+            return place;
+        }
+        self.write_ports(lines, place, link, number, ports)
     }
 
     // Writes the step of the instance from one state to another: binds, the change, unbinds.
@@ -304,25 +308,35 @@ impl<'a> Plan<'a> {
         self.write(&mut [])
     }
 
-    // Writes the script into the list, which has room for it.
-    fn write_whole(&self, lines: &mut [u32])
-        requires { length (script_of (universe_planned self.now) (plan_of self.now)) ≤ length lines.now }
-        ensures { lines.new ≡ map line_of (script_of (universe_planned self.now) (plan_of self.now)) ++ drop (length (script_of (universe_planned self.now) (plan_of self.now))) lines.old }
+    // Whether the list has fewer places than the script has lines. A list with places for every script
+    // needs no count.
+    #[tactic(auto, using(crate::proofs::Linking::never_short))]
+    fn is_short(&self, lines: &[u32]) -> bool
+        requires { length (script_of (universe_planned self.now) (plan_of self.now)) ≤ 11136 }
+        ensures { result ≡ nat_lt (length lines.now) (length (script_of (universe_planned self.now) (plan_of self.now))) }
     {
-        self.write(lines);
+        lines.len() < MOST_LINES && lines.len() < self.count()
     }
 
-    // Writes the script into the list, and answers how many lines it has; refused where the list
-    // has fewer places.
+    // Writes the script into the list, which has room for it, and answers how many lines it has.
+    fn write_whole(&self, lines: &mut [u32]) -> usize
+        requires { length (script_of (universe_planned self.now) (plan_of self.now)) ≤ length lines.now }
+        ensures count { result ≡ length (script_of (universe_planned self.now) (plan_of self.now)) }
+        ensures lines { lines.new ≡ map line_of (script_of (universe_planned self.now) (plan_of self.now)) ++ drop (length (script_of (universe_planned self.now) (plan_of self.now))) lines.old }
+    {
+        self.write(lines)
+    }
+
+    // Writes the script, which is no longer than any, into the list, and answers how many lines it has;
+    // refused where the list has fewer places.
     pub(crate) fn write_into(&self, lines: &mut [u32]) -> Result<usize, PlanRefusal>
+        requires { length (script_of (universe_planned self.now) (plan_of self.now)) ≤ 11136 }
         ensures answer { result ≡ plan_answer (Ok (script_of (universe_planned self.now) (plan_of self.now))) (length lines.old) }
         ensures lines { lines.new ≡ list_after (Ok (script_of (universe_planned self.now) (plan_of self.now))) lines.old }
     {
-        let count = self.count();
-        if lines.len() < count {
+        if self.is_short(lines) {
             return Err(PlanRefusal::Room);
         }
-        self.write_whole(lines);
-        Ok(count)
+        Ok(self.write_whole(lines))
     }
 }
