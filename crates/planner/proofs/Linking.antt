@@ -1,5 +1,5 @@
 -- The suppliers of a plan, and what is written of its links, steps, instances and script. Assumes nothing.
-use Rattle.std.proofs.Common.{◌&&◌, List, [], ◌∷◌, ◌≡◌, ℕ, zero, suc, ◌+◌, ◌-◌, ◌^◌, ◌<◌, ◌≤◌, Bool, true, false, not, length, drop, get_or, ap, sym, ltb, ◌∙◌, subst, IsOk, All, eqb, refl, inl, inr, arith}
+use Rattle.std.proofs.Common.{◌&&◌, ◌*◌, List, [], ◌∷◌, ◌≡◌, ℕ, zero, suc, ◌+◌, ◌-◌, ◌^◌, ◌<◌, ◌≤◌, Bool, true, false, not, length, drop, get_or, ap, sym, ltb, ◌∙◌, subst, IsOk, All, eqb, refl, inl, inr, arith}
 use denote.Param.Members.{Mut, Called}
 use lib.Bits.{bit_and}
 use Rattle.std.specs.Int.{bit_not, w32}
@@ -147,13 +147,23 @@ module _ (o : ClosingOrder) (ns : List Pair) (suppliers : List ℕ) (plan : Plan
       let most = (valid.states h.kind there.0).1 in
       omega arith
 
+  script_most : length (script_of (universe_in_order o) (plan_on o ns)) ≤ 232 * length ns
+  script_most =
+      script_length (universe_in_order o) (plan_on o ns) valid
+      (λ z _ low. path_short (universe_in_order o) (pairs_in_order o) closed (pair_at ns z) (pair_listed z (omega arith)) valid)
+
   -- its script can be counted
   pub short : length (script_of (universe_in_order o) (plan_on o ns)) ≤ 2 ^ 64 - 1
   short =
       let few = plan.few in
-      let most = script_length (universe_in_order o) (plan_on o ns) valid
-      (λ z _ low. path_short (universe_in_order o) (pairs_in_order o) closed (pair_at ns z) (pair_listed z (omega arith)) valid) in
+      let most = script_most in
       omega arith
+
+  -- a list with places for every script is not short of one of 48 pairs
+  pub never_short : length ns ≤ 48 → (room : ℕ) → 11136 ≤ room → false ≡ ltb room (length (script_of (universe_in_order o) (plan_on o ns)))
+  never_short few room all =
+      let most = script_most in
+      sym (le-ltb room _ (omega arith))
 
 -- an instance is its create, and its walk over the path of its pair
 pub wrote_build : (c : ClosingOrder) (ns : List Pair) (z : ℕ) (o : Order) (rs : List ℕ) {xs ys zs : List ℕ} {i j k : ℕ} →
@@ -182,7 +192,3 @@ module _ (c : ClosingOrder) (ns : List Pair) where
       Wrote xs i (script_of (universe_in_order c) (plan_on c ns)) zs k
   unfolding script_of
   wrote_script n all w = rw all at w
-
--- a list of as many places as a script may have lines is short of no script
-pub never_short : (n m : ℕ) → n ≤ 11136 → 11136 ≤ m → false ≡ ltb m n
-never_short n m most long = sym (le-ltb m n (omega arith))

@@ -122,11 +122,10 @@ module _ (u : Universe) (bs : List ℕ) (ok : Valid u) where
   goals_length = length-map bs pair_of_line
 
   -- no script is long
-  pub script_short : length bs ≤ 16 → length (script u (goal_of bs)) ≤ 11136
-  script_short few = (size_law u (goal_of bs) ok (omega (arith, goals_length, few))).1
-
   pub planned_short : (os : List Order) → planned u bs ≡ Ok os → length os ≤ 11136
-  planned_short os e = let w = planned_is os e in rw w.2 (script_short w.0.few)
+  planned_short os e =
+      let w = planned_is os e in
+      rw w.2 (size_law u (goal_of bs) ok (omega (arith, goals_length, w.0.few))).1
 
   -- the answer is out of reach exactly if the plan is
   answer_out : (p : Result (List Order) PlanRefusal) (room : ℕ) → plan_answer p room ≡ Err OutOfReach → p ≡ Err OutOfReach

@@ -23,6 +23,7 @@ use Rattle.plans.specs.Closing.{provides, supplier_rank}
 use Rattle.plans.specs.Needs.{needed_among, path_requires, serves}
 use Rattle.plans.proofs.Closed.{Closed}
 use Rattle.plans.proofs.Closings.{pair_count_small}
+use Rattle.plans.proofs.Laws.{size_law}
 use Rattle.plans.proofs.Ranks.{first_passes}
 use Rattle.std.proofs.lemmas.Bool.{and_from, and_parts, both_ways, eqb-true}
 use Rattle.closing.specs.declared.order.ClosingOrder.{ClosingOrder}
@@ -209,6 +210,12 @@ module _ (o : ClosingOrder) (goal : List Pair) where
   -- at the highest rank there are none
   pub needing_begins : (n : Needed) (r : ℕ) → length n.pairs ≡ 128 → n.from ≡ 128 → r ≡ length l → Turn u l goal r n 0
   needing_begins n r full last is = rw is (turn_first u l goal n full last)
+
+  -- at the lowest they are all found, and few
+  pub needing_few : (r : ℕ) (n : Needed) (wanted : ℕ) → Turn u l goal r n wanted → r ≤ 0 → length goal ≤ 16 → length (pairs_of_needed n) ≤ 48
+  needing_few r n wanted t last few =
+      let first : r ≡ 0 = omega arith in
+      rw (t.among, first) (size_law u goal (valid_order o) few).0
 
   module _ (r : ℕ) (n : Needed) (wanted : ℕ) (t : Turn u l goal r n wanted) (pos : 0 < r) where
     turn : Turn u l goal (r - 1 + 1) n wanted

@@ -1,5 +1,5 @@
 // The pairs that a goal needs.
-ghost use Rattle.std.specs.Prelude.{◌≡◌, ◌∷◌, ◌<◌, ℕ, length, true};
+ghost use Rattle.std.specs.Prelude.{◌≡◌, ◌∷◌, ◌<◌, ◌≤◌, ℕ, length, true};
 ghost use Rattle.universe.specs.Sets.{has};
 ghost use Rattle.universe.specs.Tables.{entry_at};
 ghost use Rattle.plans.specs.Lists.{listed};
@@ -95,9 +95,11 @@ fn is_needed(order: &ClosingOrder, goal: &[u8], ports: u32, rank: usize) -> bool
 }
 
 // The pairs that the goal needs, by rank: found from the highest rank down, since a supplier always
-// has a lower rank than the pairs that need it.
+// has a lower rank than the pairs that need it. They are 48 at most.
 pub(crate) fn needed_pairs(order: &ClosingOrder, goal: &[u8]) -> Needed
+    requires { length goal.now ≤ 16 }
     ensures fits { NeededFits result }
+    ensures few { length (pairs_of_needed result) ≤ 48 }
     ensures pairs { pairs_of_needed result ≡ needed (universe_in_order order.now) (pairs_in_order order.now) (goal_of goal.now) }
 {
     let mut needed = Needed {

@@ -310,9 +310,8 @@ impl<'a> Plan<'a> {
 
     // Whether the list has fewer places than the script has lines. A list with places for every script
     // needs no count.
-    #[tactic(auto, using(crate::proofs::Linking::never_short))]
     fn is_short(&self, lines: &[u32]) -> bool
-        requires { length (script_of (universe_planned self.now) (plan_of self.now)) ≤ 11136 }
+        requires { length self.now.pairs.now ≤ 48 }
         ensures { result ≡ nat_lt (length lines.now) (length (script_of (universe_planned self.now) (plan_of self.now))) }
     {
         lines.len() < MOST_LINES && lines.len() < self.count()
@@ -327,10 +326,10 @@ impl<'a> Plan<'a> {
         self.write(lines)
     }
 
-    // Writes the script, which is no longer than any, into the list, and answers how many lines it has;
-    // refused where the list has fewer places.
+    // Writes the script into the list, and answers how many lines it has; refused where the list
+    // has fewer places.
     pub(crate) fn write_into(&self, lines: &mut [u32]) -> Result<usize, PlanRefusal>
-        requires { length (script_of (universe_planned self.now) (plan_of self.now)) ≤ 11136 }
+        requires { length self.now.pairs.now ≤ 48 }
         ensures answer { result ≡ plan_answer (Ok (script_of (universe_planned self.now) (plan_of self.now))) (length lines.old) }
         ensures lines { lines.new ≡ list_after (Ok (script_of (universe_planned self.now) (plan_of self.now))) lines.old }
     {
