@@ -1,5 +1,6 @@
 // The verifying layer: a host over another that refuses the changes and unbinds which would leave a gap.
 ghost use Rattle.std.specs.Prelude.{◌≡◌, cond, false, not, ◌&&◌, is_some, None, Ok, Err, ◌==◌};
+ghost use Rattle.model.specs.declared.order.Order.TheVariants.{Create, Bind, Change, Unbind, Delete};
 ghost use Rattle.model.specs.Bounded.{any_gap};
 ghost use Rattle.hosts.specs.Survey.{has_gap};
 ghost use Rattle.hosts.specs.Answers.{Gives, is_tested as is_tested_order, meaning};
@@ -125,6 +126,7 @@ impl<B: Host> Verifying<B> {
     fn take(&mut self, order: Order) -> Result<(), Refusal>
         ensures answered { Gives B.Survey.situation (λ h. watched (B.Host.service h)) order self.old.below self.new.below result }
         ensures exact { Relays B.Survey.situation B.Host.service B.Host.does order self.old.below self.new.below result }
+        ensures relayed { Relays B.Survey.situation B.Host.service (Gives B.Survey.situation B.Host.service) order self.old.below self.new.below result }
     {
         self.relay(order)
     }
@@ -183,24 +185,46 @@ impl<B: Host> Host for Verifying<B> {
         self.own_height()
     }
 
-    // The work of the five orders is one, `take`.
-    fn create(&mut self, instance: u32, kind: u32) -> Result<(), Refusal> {
+    // The work of the five orders is one, `take`. Each has the trait's two clauses, and one more: with an order that the
+    // layer lets pass, the host below keeps to the relation of hosts, and what it answers is answered. A host's own terms
+    // (`does`) need not say so much of it.
+    fn create(&mut self, instance: u32, kind: u32) -> Result<(), Refusal>
+        ensures answered { Gives B.Survey.situation (λ h. watched (B.Host.service h)) (Create instance kind) self.old.below self.new.below result }
+        ensures exact { Relays B.Survey.situation B.Host.service B.Host.does (Create instance kind) self.old.below self.new.below result }
+        ensures relayed { Relays B.Survey.situation B.Host.service (Gives B.Survey.situation B.Host.service) (Create instance kind) self.old.below self.new.below result }
+    {
         self.take(Order::Create { instance, kind })
     }
 
-    fn bind(&mut self, binding: Binding) -> Result<(), Refusal> {
+    fn bind(&mut self, binding: Binding) -> Result<(), Refusal>
+        ensures answered { Gives B.Survey.situation (λ h. watched (B.Host.service h)) (Bind binding) self.old.below self.new.below result }
+        ensures exact { Relays B.Survey.situation B.Host.service B.Host.does (Bind binding) self.old.below self.new.below result }
+        ensures relayed { Relays B.Survey.situation B.Host.service (Gives B.Survey.situation B.Host.service) (Bind binding) self.old.below self.new.below result }
+    {
         self.take(Order::Bind(binding))
     }
 
-    fn change(&mut self, instance: u32, state: u32) -> Result<(), Refusal> {
+    fn change(&mut self, instance: u32, state: u32) -> Result<(), Refusal>
+        ensures answered { Gives B.Survey.situation (λ h. watched (B.Host.service h)) (Change instance state) self.old.below self.new.below result }
+        ensures exact { Relays B.Survey.situation B.Host.service B.Host.does (Change instance state) self.old.below self.new.below result }
+        ensures relayed { Relays B.Survey.situation B.Host.service (Gives B.Survey.situation B.Host.service) (Change instance state) self.old.below self.new.below result }
+    {
         self.take(Order::Change { instance, state })
     }
 
-    fn unbind(&mut self, binding: Binding) -> Result<(), Refusal> {
+    fn unbind(&mut self, binding: Binding) -> Result<(), Refusal>
+        ensures answered { Gives B.Survey.situation (λ h. watched (B.Host.service h)) (Unbind binding) self.old.below self.new.below result }
+        ensures exact { Relays B.Survey.situation B.Host.service B.Host.does (Unbind binding) self.old.below self.new.below result }
+        ensures relayed { Relays B.Survey.situation B.Host.service (Gives B.Survey.situation B.Host.service) (Unbind binding) self.old.below self.new.below result }
+    {
         self.take(Order::Unbind(binding))
     }
 
-    fn delete(&mut self, instance: u32) -> Result<(), Refusal> {
+    fn delete(&mut self, instance: u32) -> Result<(), Refusal>
+        ensures answered { Gives B.Survey.situation (λ h. watched (B.Host.service h)) (Delete instance) self.old.below self.new.below result }
+        ensures exact { Relays B.Survey.situation B.Host.service B.Host.does (Delete instance) self.old.below self.new.below result }
+        ensures relayed { Relays B.Survey.situation B.Host.service (Gives B.Survey.situation B.Host.service) (Delete instance) self.old.below self.new.below result }
+    {
         self.take(Order::Delete { instance })
     }
 }
