@@ -11,7 +11,7 @@ use lines::refusal::LineRefusal;
 use lines::{decode, encode};
 use model::order::Order;
 use std::alloc::{AllocError, Global};
-use text::parse_order;
+use text::{order_text, parse_order};
 
 // A script whose length is no multiple of four.
 #[derive(Clone, Copy, PartialEq, Eq, Debug)]
@@ -53,7 +53,11 @@ fn line_report(
     ensures { IfOk result (λ s. string_bytes s ≡ line_text place order) }
 {
     match order {
-        Ok(order) => format!(in alloc; "{order}\n"),
+        Ok(order) => {
+            let mut text = order_text(alloc, order)?;
+            text.push('\n')?;
+            Ok(text)
+        }
         Err(refusal) => refusal_text(alloc, refusal.number(), place),
     }
 }
