@@ -1,6 +1,6 @@
 // Rows of drafts, which are checked against an empty host, or against a cloud in which something may stand.
 use crate::host_rows::LARGEST;
-use crate::rows::{Unreadable, report_text};
+use crate::rows::{Lack, report_text};
 use crate::words::{word_bytes, word_lines};
 use check_text::{answer_line, check_report};
 use checking::check::check;
@@ -53,8 +53,8 @@ fn cloud_text(
 }
 
 // What the check answers to a universe and a draft, which have a blank between them.
-pub(crate) fn draft_text(alloc: Global, row: &str) -> Result<String, Failure<Unreadable>> {
-    let (universe, draft) = row.split_once(" ").ok_or(Unreadable)?;
+pub(crate) fn draft_text(alloc: Global, row: &str) -> Result<String, Failure<Lack>> {
+    let (universe, draft) = row.split_once(" ").ok_or(Lack::Word)?;
     let universe = word_bytes(alloc, universe)?;
     let draft = word_lines(alloc, draft)?;
     Ok(report_text(check_report(alloc, &universe, &draft))?)
@@ -62,9 +62,9 @@ pub(crate) fn draft_text(alloc: Global, row: &str) -> Result<String, Failure<Unr
 
 // What the check answers to a universe, the orders that a cloud of it is given first, and a draft, with blanks
 // between them.
-pub(crate) fn standing_text(alloc: Global, row: &str) -> Result<String, Failure<Unreadable>> {
-    let (universe, rest) = row.split_once(" ").ok_or(Unreadable)?;
-    let (orders, draft) = rest.split_once(" ").ok_or(Unreadable)?;
+pub(crate) fn standing_text(alloc: Global, row: &str) -> Result<String, Failure<Lack>> {
+    let (universe, rest) = row.split_once(" ").ok_or(Lack::Word)?;
+    let (orders, draft) = rest.split_once(" ").ok_or(Lack::Word)?;
     let universe = word_bytes(alloc, universe)?;
     let orders = word_lines(alloc, orders)?;
     let draft = word_lines(alloc, draft)?;

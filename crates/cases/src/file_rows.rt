@@ -1,8 +1,8 @@
 // Rows of files in hexadecimal digits: packed universes, packed scripts, and texts of orders.
-use crate::rows::{Unreadable, report_text};
-use crate::words::word_bytes;
+use crate::rows::{Lack, report_text, unless_lacking};
 use console::describe::universe_report;
 use console::failure::Failure;
+use console::hex::parse_hex;
 use model::order::Order;
 use scripts::{
     CutShort, NoOrder, PackFault, lines_report, pack_orders, pack_text, parse_orders, refusal_text,
@@ -46,21 +46,26 @@ fn packed_text(alloc: Global, orders: &[Order]) -> Result<String, AllocError> {
     }
 }
 
+// The bytes that a row writes in hexadecimal digits.
+fn row_bytes(alloc: Global, row: &str) -> Result<Vec<u8>, Failure<Lack>> {
+    unless_lacking(parse_hex(alloc, row.as_bytes()), Lack::Digits)
+}
+
 // What is shown of a packed universe.
-pub(crate) fn universe_text(alloc: Global, row: &str) -> Result<String, Failure<Unreadable>> {
-    let bytes = word_bytes(alloc, row)?;
+pub(crate) fn universe_text(alloc: Global, row: &str) -> Result<String, Failure<Lack>> {
+    let bytes = row_bytes(alloc, row)?;
     Ok(compared_text(universe_report(alloc, &bytes))?)
 }
 
 // What is shown of a packed script.
-pub(crate) fn script_text(alloc: Global, row: &str) -> Result<String, Failure<Unreadable>> {
-    let bytes = word_bytes(alloc, row)?;
+pub(crate) fn script_text(alloc: Global, row: &str) -> Result<String, Failure<Lack>> {
+    let bytes = row_bytes(alloc, row)?;
     Ok(lines_text(alloc, &bytes)?)
 }
 
 // What is shown of a text of orders.
-pub(crate) fn orders_text(alloc: Global, row: &str) -> Result<String, Failure<Unreadable>> {
-    let text = word_bytes(alloc, row)?;
+pub(crate) fn orders_text(alloc: Global, row: &str) -> Result<String, Failure<Lack>> {
+    let text = row_bytes(alloc, row)?;
     match parse_orders(alloc, &text) {
         Ok(orders) => Ok(packed_text(alloc, &orders)?),
         Err(failure) => {

@@ -1,5 +1,5 @@
 // Rows of universes, of which the closing order is shown, and of universes with goals and rooms, of which the plan is.
-use crate::rows::{Unreadable, report_text};
+use crate::rows::{Lack, report_text};
 use crate::words::{word_bytes, word_number};
 use console::failure::Failure;
 use console::report::read_universe;
@@ -74,15 +74,15 @@ fn planned_text(
 }
 
 // The closing order of a universe.
-pub(crate) fn closing_text(alloc: Global, row: &str) -> Result<String, Failure<Unreadable>> {
+pub(crate) fn closing_text(alloc: Global, row: &str) -> Result<String, Failure<Lack>> {
     let universe = word_bytes(alloc, row)?;
     Ok(report_text(closing_report(alloc, &universe))?)
 }
 
 // The plan of a universe, a goal and a number of places, with blanks between them.
-pub(crate) fn plan_text(alloc: Global, row: &str) -> Result<String, Failure<Unreadable>> {
-    let (universe, rest) = row.split_once(" ").ok_or(Unreadable)?;
-    let (goal, room) = rest.split_once(" ").ok_or(Unreadable)?;
+pub(crate) fn plan_text(alloc: Global, row: &str) -> Result<String, Failure<Lack>> {
+    let (universe, rest) = row.split_once(" ").ok_or(Lack::Word)?;
+    let (goal, room) = rest.split_once(" ").ok_or(Lack::Word)?;
     let universe = word_bytes(alloc, universe)?;
     let goal = word_bytes(alloc, goal)?;
     let room = word_number(room)?;
